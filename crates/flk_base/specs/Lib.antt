@@ -1,0 +1,6 @@
+pub mod Buffer
+pub mod Causes
+pub mod Fuses
+pub mod Hexadecimal
+pub mod InMemory
+pub mod Told
