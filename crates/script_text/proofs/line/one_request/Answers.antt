@@ -1,0 +1,5 @@
+use Rattle.script_text.proofs.ReadingLemmas.{found, again}
+use Rattle.script_text.proofs.line.one_request.Goals as goal
+
+pub returns-clause-read : goal.returns-clause-read
+returns-clause-read c line request = (again line request, found line request)

@@ -1,0 +1,8 @@
+//! The lines of a script: how they are read from a source, and what each asks for.
+#![tactic(auto)]
+
+mod line;
+mod numbers;
+mod words;
+
+pub use line::{Event, LineFault, one_request, read_line};

@@ -1,0 +1,162 @@
+// What a line asks for.
+ghost use Rattle.std.specs.Prelude.{◌≡◌, ◌↔◌, ◌⊎◌, ◌==◌, ◌∷◌, ℕ, List, nat_eq, codes, IsTrue, slice_index, IfOk, Ok, Err};
+ghost use Rattle.std.specs.List.{list_all, starts_with};
+ghost use Rattle.script_text.specs.Grammar.{Request, SpellsLine, is_printable, number_of};
+ghost use Rattle.script_text.specs.Reading.{Gives, reading, words_in, command_in, extend_in, read_in, number_in, expression_in};
+ghost use Rattle.script_text.specs.Seen.{request_of};
+
+use crate::numbers::number_of;
+use crate::words::{Words, content};
+use flk_base::{Bytes, HexFault, read_hex};
+use std::alloc::Global;
+
+/// The most bytes that a line may have, without its LF.
+pub(crate) const LONGEST_LINE: usize = 16_384;
+
+/// What a line asks for.
+#[derive(Drop)]
+pub enum Event {
+    /// Nothing: the line has no words, or is a comment.
+    Blank,
+    /// To extend register `r` by the text `host` and these bytes.
+    Extend { r: u32, text: Bytes },
+    /// To show the value of register `r`.
+    Read { r: u32 },
+}
+
+/// The first thing that is wrong with a line, in the order of the checks.
+#[derive(Clone, Copy, Debug, PartialEq, Eq)]
+pub enum LineFault {
+    /// 1: more than 16,384 bytes stand before the LF.
+    LongLine,
+    /// 2: a byte is neither a tab nor one of 32 to 126.
+    Byte,
+    /// 3: the first word is no command.
+    Command,
+    /// 4: the number of words is not that of the command.
+    Count,
+    /// 5: a word that has to be a Number is none.
+    Number,
+    /// 6: a word that has to be an Expression is none.
+    Expression,
+    /// 7: a word that has to be a Name is none.
+    Name,
+    /// There was no memory for the event.
+    NoMemory,
+}
+
+fn is_printable(c: u8) -> bool
+    ensures { result ≡ is_printable c }
+{
+    c == b'\t' || (32 <= c && c <= 126)
+}
+
+fn are_printable(text: &[u8]) -> bool
+    ensures { result ≡ list_all is_printable text.now }
+{
+    text.iter().all(|c| is_printable(*c))
+}
+
+/// What the line, without its LF, asks for, or the first thing that is wrong with it.
+pub fn read_line(alloc: Global, bytes: &[u8]) -> Result<Event, LineFault>
+    // What is read is spelled so.
+    ensures spelled { IfOk result (λ event. SpellsLine (request_of event) bytes.now) }
+    // What is spelled so is read, unless memory runs out.
+    ensures only { (request : Request) → SpellsLine request bytes.now → Gives request_of result (Ok request) }
+    // Which fault it is: the first in the order of the checks.
+    ensures exact { Gives request_of result (reading bytes.now) }
+{
+    first_fault(alloc, bytes)
+}
+
+/// No line spells two requests, and what a line spells is what reading it gives.
+pub fn one_request()
+    ensures one { (line : List ℕ) (a : Request) (b : Request) → SpellsLine a line → SpellsLine b line → a ≡ b }
+    ensures read { (line : List ℕ) (request : Request) → SpellsLine request line ↔ (reading line ≡ Ok request) }
+{
+}
+
+fn first_fault(alloc: Global, bytes: &[u8]) -> Result<Event, LineFault>
+    ensures { Gives request_of result (reading bytes.now) }
+{
+    if bytes.len() > LONGEST_LINE {
+        return Err(LineFault::LongLine);
+    }
+    let content = content(bytes);
+    if !are_printable(content) {
+        return Err(LineFault::Byte);
+    }
+    read_words(alloc, Words::new(content))
+}
+
+fn read_words(alloc: Global, mut words: Words<'_>) -> Result<Event, LineFault>
+    ensures { Gives request_of result (words_in words.entry) }
+{
+    match words.next() {
+        None => Ok(Event::Blank),
+        Some([b'#', ..]) => Ok(Event::Blank),
+        Some(command) => read_command(alloc, command, words),
+    }
+}
+
+fn read_command(alloc: Global, command: &[u8], words: Words<'_>) -> Result<Event, LineFault>
+    ensures { Gives request_of result (command_in command.now words.entry) }
+{
+    if command == b"extend".as_slice() {
+        read_extend(alloc, words)
+    } else if command == b"read".as_slice() {
+        read_read(words)
+    } else {
+        Err(LineFault::Command)
+    }
+}
+
+fn read_extend(alloc: Global, mut words: Words<'_>) -> Result<Event, LineFault>
+    ensures { Gives request_of result (extend_in words.entry) }
+{
+    let Some(number) = words.next() else {
+        return Err(LineFault::Count);
+    };
+    let Some(expression) = words.next() else {
+        return Err(LineFault::Count);
+    };
+    if words.next().is_some() {
+        return Err(LineFault::Count);
+    }
+    let r = number_in(number)?;
+    let text = expression_in(alloc, expression)?;
+    Ok(Event::Extend { r, text })
+}
+
+fn read_read(mut words: Words<'_>) -> Result<Event, LineFault>
+    ensures { Gives request_of result (read_in words.entry) }
+{
+    let Some(number) = words.next() else {
+        return Err(LineFault::Count);
+    };
+    if words.next().is_some() {
+        return Err(LineFault::Count);
+    }
+    let r = number_in(number)?;
+    Ok(Event::Read { r })
+}
+
+fn number_in(word: &[u8]) -> Result<u32, LineFault>
+    ensures { result ≡ number_in word.now }
+{
+    number_of(word).ok_or(LineFault::Number)
+}
+
+fn expression_in(alloc: Global, word: &[u8]) -> Result<Bytes, LineFault>
+    ensures { Gives (λ read. read.bytes) result (expression_in word.now) }
+{
+    if !word.starts_with(b"x:") {
+        return Err(LineFault::Expression);
+    }
+    match read_hex(alloc, &word[2..]) {
+        Ok(bytes) => Ok(bytes),
+        Err(HexFault::NoMemory) => Err(LineFault::NoMemory),
+        Err(HexFault::Odd) => Err(LineFault::Expression),
+        Err(HexFault::Digit) => Err(LineFault::Expression),
+    }
+}
