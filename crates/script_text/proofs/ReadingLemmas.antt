@@ -1,5 +1,5 @@
 -- What is read without a fault is what the line spells, and the other way round.
-use Rattle.std.proofs.Common.{◌≡◌, cond, ℕ, ◌<◌, ◌≤◌, ◌⊎◌, inl, inr, Bool, true, false, List, [], ◌∷◌, ◌++◌, length, get_or, drop, refl, sym, ap, ◌∙◌, subst, arith}
+use Rattle.std.proofs.Common.{◌≡◌, cond, ℕ, ◌⊎◌, inl, inr, Bool, true, false, List, [], ◌∷◌, length, get_or, drop, refl, sym, ap, subst, arith}
 use Rattle.std.specs.Prelude.{Option, Some, None, Result, Ok, Err, IfOk, nat_lt, nat_eq, codes}
 use Rattle.std.specs.List.{list_all, starts_with}
 use Rattle.std.specs.Str.{bytes_eq}
@@ -12,11 +12,11 @@ use Rattle.hex.specs.Hex.{decode_of, is_hex_digit}
 use Rattle.hex.specs.declared.error.FromHexError.{FromHexError}
 use Rattle.hex.proofs.HexLemmas.{decode_of-ok}
 use Rattle.flk_base.specs.Hexadecimal.{HasNonDigit}
-use Rattle.script_text.specs.Lines.{words, content}
+use Rattle.script_text.specs.Lines.{longest_line, words, content}
 use Rattle.script_text.specs.Grammar.{Request, Nothing, ExtendBy, ReadOf, number_of, is_printable, is_remark, IsExpression, SpellsWords, SpellsLine}
 use Rattle.script_text.specs.Reading.{◌>>=◌, or_fault, decoded, number_in, expression_in, extend_in, read_in, command_in, words_in, reading, Gives}
 use Rattle.script_text.specs.declared.line.LineFault.{LineFault}
-use Rattle.script_text.specs.declared.line.LineFault.TheVariants.{LongLine, Byte, Command, Count, Number, Expression, NoMemory}
+use Rattle.script_text.specs.declared.line.LineFault.TheVariants.{Number, Expression, NoMemory}
 
 -- which way a test went
 chosen : {A : Type 0} (b : Bool) (x y z : A) → cond b x y ≡ z → ((b ≡ true) × (x ≡ z)) ⊎ ((b ≡ false) × (y ≡ z))
@@ -139,3 +139,64 @@ undecoded text (Ok bytes) bad h =
 -- a word behind whose x: a byte is no digit
 pub no_expression : (word text : List ℕ) → starts_with nat_eq word (codes "x:") ≡ true → text ≡ drop 2 word → HasNonDigit text → expression_in word ≡ Err Expression
 no_expression word text begins same bad = rw begins (undecoded (drop 2 word) (decode_of (drop 2 word)) (subst (λ t. HasNonDigit t) same bad) refl)
+
+-- ---- want of memory
+
+-- a fault is one of those of the first check, or of the second
+bind_err : {A B : Type 0} (r : Result A LineFault) (f : A → Result B LineFault) (e : LineFault) → (r >>= f) ≡ Err e → (r ≡ Err e) ⊎ ((x : A) × (f x ≡ Err e))
+bind_err (Ok x) f e h = inr (x, h)
+bind_err (Err d) f e h = inl (let same : d ≡ e = cc in ap (λ x. Err x) same)
+
+number_memory : (o : Option ℕ) → or_fault o Number ≡ Err NoMemory → ⊥
+number_memory (Some n) h = cc
+number_memory None h = cc
+
+decoded_memory : {E : Type 0} (r : Result (List ℕ) E) → decoded r ≡ Err NoMemory → ⊥
+decoded_memory (Ok x) h = cc
+decoded_memory (Err e) h = cc
+
+expression_memory : (word : List ℕ) → expression_in word ≡ Err NoMemory → ⊥
+expression_memory word h = elim (chosen (starts_with nat_eq word (codes "x:")) _ _ _ h) [
+  | inl took ↦ decoded_memory (decode_of (drop 2 word)) took.1
+  | inr other ↦ cc
+]
+
+extend_memory : (ws : List (List ℕ)) → extend_in ws ≡ Err NoMemory → ⊥
+extend_memory [] h = cc
+extend_memory (a ∷ []) h = cc
+extend_memory (a ∷ b ∷ c ∷ ws) h = cc
+extend_memory (a ∷ b ∷ []) h = elim (bind_err (number_in a) (λ r. expression_in b >>= λ text. Ok (ExtendBy r text)) NoMemory h) [
+  | inl number ↦ number_memory (number_of a) number
+  | inr rest ↦ elim (bind_err (expression_in b) (λ text. Ok (ExtendBy rest.0 text)) NoMemory rest.1) [
+    | inl expression ↦ expression_memory b expression
+    | inr done ↦ cc
+  ]
+]
+
+read_memory : (ws : List (List ℕ)) → read_in ws ≡ Err NoMemory → ⊥
+read_memory [] h = cc
+read_memory (a ∷ b ∷ ws) h = cc
+read_memory (a ∷ []) h = elim (bind_err (number_in a) (λ r. Ok (ReadOf r)) NoMemory h) [ inl number ↦ number_memory (number_of a) number | inr done ↦ cc ]
+
+command_memory : (word : List ℕ) (arguments : List (List ℕ)) → command_in word arguments ≡ Err NoMemory → ⊥
+command_memory word arguments h = elim (chosen (bytes_eq word (codes "extend")) _ _ _ h) [
+  | inl took ↦ extend_memory arguments took.1
+  | inr other ↦ elim (chosen (bytes_eq word (codes "read")) _ _ _ other.1) [ inl took ↦ read_memory arguments took.1 | inr neither ↦ cc ]
+]
+
+words_memory : (ws : List (List ℕ)) → words_in ws ≡ Err NoMemory → ⊥
+words_memory [] h = cc
+words_memory (word ∷ arguments) h = elim (chosen (is_remark (word ∷ arguments)) _ _ _ h) [
+  | inl took ↦ cc
+  | inr other ↦ command_memory word arguments other.1
+]
+
+-- want of memory is no fault of a line
+pub never_memory : (line : List ℕ) → reading line ≡ Err NoMemory → ⊥
+never_memory line h = elim (chosen (nat_lt longest_line (length line)) _ _ _ h) [
+  | inl took ↦ cc
+  | inr short ↦ elim (chosen (list_all is_printable (content line)) _ _ _ short.1) [
+    | inl took ↦ words_memory (words (content line)) took.1
+    | inr other ↦ cc
+  ]
+]

@@ -1,7 +1,7 @@
 -- Taking a text's words from its front.
 use Rattle.std.proofs.Common.{◌≡◌, ℕ, suc, ◌+◌, Bool, true, false, not, List, [], ◌∷◌, take, drop, refl, sym, ap, ◌∙◌, subst, arith}
 use Rattle.std.specs.Prelude.{filter}
-use Rattle.std.specs.List.{prefix_len, slice_split, onto_first}
+use Rattle.std.specs.List.{prefix_len, slice_split}
 use Rattle.script_text.specs.Lines.{is_blank, has_bytes, words}
 use Rattle.script_text.specs.Words.{IsFirstWord}
 

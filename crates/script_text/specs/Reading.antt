@@ -1,10 +1,12 @@
 -- What a line asks for, or the first thing that is wrong with it: the checks in their order.
-use Rattle.std.specs.Prelude.{◌≡◌, ◌⊎◌, ℕ, nat_eq, nat_lt, Bool, List, [], ◌∷◌, length, drop, codes, Option, Some, None, Result, Ok, Err, if◌then◌else◌}
+use Rattle.std.specs.Prelude.{◌≡◌, ◌⊎◌, ℕ, nat_eq, nat_lt, List, [], ◌∷◌, length, drop, codes, Option, Some, None, Result, Ok, Err, if◌then◌else◌}
 use Rattle.std.specs.List.{list_all, starts_with}
 use Rattle.std.specs.Str.{bytes_eq}
 use Rattle.hex.specs.Hex.{decode_of}
-use Rattle.script_text.specs.Lines.{longest_line, words, content}
+use Rattle.script_text.specs.Lines.{longest_line, most_lines, words, content}
 use Rattle.script_text.specs.Grammar.{Request, Nothing, ExtendBy, ReadOf, number_of, is_printable, is_remark}
+use Rattle.script_text.specs.declared.line.BadLine.{BadLine}
+use Rattle.script_text.specs.declared.line.BadLine.TheVariants.{Faulty, TooMany}
 use Rattle.script_text.specs.declared.line.LineFault.{LineFault}
 use Rattle.script_text.specs.declared.line.LineFault.TheVariants.{LongLine, Byte, Command, Count, Number, Expression, NoMemory}
 
@@ -59,6 +61,15 @@ reading line =
     if nat_lt longest_line (length line) then Err LongLine
     else if list_all is_printable (content line) then words_in (words (content line))
     else Err Byte
+
+-- a line with a fault is bad
+abbrev pub as_bad : Result Request LineFault → Result Request BadLine
+as_bad (Ok request) = Ok request
+as_bad (Err fault) = Err (Faulty fault)
+
+-- what line n of a script asks for, or why it is bad: none may stand behind the last that a script may have
+abbrev pub judged : ℕ → List ℕ → Result Request BadLine
+judged n line = if nat_lt most_lines n then Err TooMany else as_bad (reading line)
 
 -- what a function returned, seen by view, is what reading gives, unless memory ran out
 abbrev pub Gives : {X Y : Type 0} → (X → Y) → Result X LineFault → Result Y LineFault → Type 0

@@ -5,4 +5,4 @@ mod line;
 mod numbers;
 mod words;
 
-pub use line::{Event, LineFault, one_request, read_line};
+pub use line::{BadLine, Event, LineFault, one_request, read_line};

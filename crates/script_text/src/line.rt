@@ -1,5 +1,5 @@
 // What a line asks for.
-ghost use Rattle.std.specs.Prelude.{◌≡◌, ◌↔◌, ◌⊎◌, ◌==◌, ◌∷◌, ℕ, List, nat_eq, codes, IsTrue, slice_index, IfOk, Ok, Err};
+ghost use Rattle.std.specs.Prelude.{◌≡◌, ◌≢◌, ◌↔◌, ◌⊎◌, ◌==◌, ◌∷◌, ℕ, List, nat_eq, codes, IsTrue, slice_index, IfOk, Ok, Err};
 ghost use Rattle.std.specs.List.{list_all, starts_with};
 ghost use Rattle.script_text.specs.Grammar.{Request, SpellsLine, is_printable, number_of};
 ghost use Rattle.script_text.specs.Reading.{Gives, reading, words_in, command_in, extend_in, read_in, number_in, expression_in};
@@ -45,6 +45,15 @@ pub enum LineFault {
     NoMemory,
 }
 
+/// Why a line of a script is bad.
+#[derive(Clone, Copy, Debug, PartialEq, Eq)]
+pub enum BadLine {
+    /// The line by itself has this fault, which is never want of memory.
+    Faulty(LineFault),
+    /// 8: it stands behind 100,000 lines.
+    TooMany,
+}
+
 fn is_printable(c: u8) -> bool
     ensures { result ≡ is_printable c }
 {
@@ -69,12 +78,13 @@ pub fn read_line(alloc: Global, bytes: &[u8]) -> Result<Event, LineFault>
     first_fault(alloc, bytes)
 }
 
-/// No line spells two requests, and what a line spells is what reading it gives.
+/// No line spells two requests, what a line spells is what reading it gives, and want of memory is no fault
+/// of a line.
 pub fn one_request()
     ensures one { (line : List ℕ) (a : Request) (b : Request) → SpellsLine a line → SpellsLine b line → a ≡ b }
     ensures read { (line : List ℕ) (request : Request) → SpellsLine request line ↔ (reading line ≡ Ok request) }
-{
-}
+    ensures memory { (line : List ℕ) → reading line ≢ Err LineFault.NoMemory }
+{}
 
 fn first_fault(alloc: Global, bytes: &[u8]) -> Result<Event, LineFault>
     ensures { Gives request_of result (reading bytes.now) }

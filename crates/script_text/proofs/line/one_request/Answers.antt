@@ -1,5 +1,8 @@
-use Rattle.script_text.proofs.ReadingLemmas.{found, again}
+use Rattle.script_text.proofs.ReadingLemmas.{found, again, never_memory}
 use Rattle.script_text.proofs.line.one_request.Goals as goal
 
 pub returns-clause-read : goal.returns-clause-read
 returns-clause-read c line request = (again line request, found line request)
+
+pub returns-clause-memory : goal.returns-clause-memory
+returns-clause-memory c line = never_memory line
