@@ -1,0 +1,10 @@
+//! Runs the events of a script on a board and a disk, and says what a platform of plain lists would answer.
+#![tactic(auto)]
+
+mod answers;
+mod board;
+mod events;
+mod runner;
+
+pub use board::{Board, SimDisk, Spans};
+pub use runner::{Runner, StepEnd};
