@@ -37,3 +37,7 @@ until_fault faults bytes = if faults == 0 then bytes else None
 pub record Edge (T : Type 0) : Type 0 where
   pub inner : T
   pub faults : ℕ
+
+-- what an edge tells, where its reader or writer tells this much
+abbrev pub told_by : {T : Type 0} → (T → Option (List ℕ)) → Edge T → Option (List ℕ)
+told_by known edge = until_fault edge.faults (known edge.inner)

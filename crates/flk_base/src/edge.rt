@@ -1,5 +1,9 @@
 // The trusted edge: std's reader and writer, with a count of their faults.
-ghost use Rattle.std.specs.Prelude.{◌≡◌};
+ghost use Rattle.std.specs.Prelude.{◌≡◌, ◌≢◌, ◌≤◌, Err, OnOk, OnErr};
+ghost use Rattle.std.specs.Io.{ReadsAtMost};
+ghost use Rattle.std.specs.Io.KnownBytes.{ReadConsumes, Appends};
+ghost use Rattle.flk_base.specs.Causes.{HasCause, Rose, counted};
+ghost use Rattle.flk_base.specs.Told.{AppendsFront, KeepsWhereTold, told_by};
 
 use crate::streams::{Failed, PutFault, Sink, Source};
 use std::io::{Read, Write};
@@ -31,13 +35,22 @@ impl<R: Read> StdSource<R> {
 }
 
 impl<R: Read> Source for StdSource<R> {
-    ghost use Rattle.flk_base.specs.Told.{until_fault};
-
-    ghost left = { λ s. until_fault s.faults (R.remaining s.inner) };
+    ghost left = { λ s. told_by R.remaining s };
 
     ghost fault_count = { λ s. s.faults };
 
-    fn read(&mut self, buf: &mut [u8]) -> Result<usize, Failed> {
+    fn read(&mut self, buf: &mut [u8]) -> Result<usize, Failed>
+        ensures bound { ReadsAtMost result buf.new }
+        ensures bytes { OnOk result
+            (ReadConsumes (told_by R.remaining self.old) (told_by R.remaining self.new) result buf.new) }
+        ensures kept { OnErr result
+            (KeepsWhereTold (told_by R.remaining self.old) (told_by R.remaining self.new)) }
+        ensures cause { HasCause self.old.faults self.new.faults result }
+
+        // Beside what the trait says: each error counts as one fault, and nothing else counts.
+        ensures raised { OnErr result (self.new.faults ≡ counted self.old.faults) }
+        ensures stays { OnOk result (self.new.faults ≡ self.old.faults) }
+    {
         match self.inner.read(buf) {
             Ok(count) => Ok(count),
             Err(_) => {
@@ -78,14 +91,25 @@ impl<W: Write> StdSink<W> {
 }
 
 impl<W: Write> Sink for StdSink<W> {
-    ghost use Rattle.flk_base.specs.Told.{until_fault};
-
-    ghost contents = { λ s. until_fault s.faults (W.contents s.inner) };
+    ghost contents = { λ s. told_by W.contents s };
 
     ghost fault_count = { λ s. s.faults };
 
     // A writer that takes nothing of a piece that has bytes counts a fault too.
-    fn put(&mut self, piece: &[u8]) -> Result<(), PutFault> {
+    fn put(&mut self, piece: &[u8]) -> Result<(), PutFault>
+        ensures ok { OnOk result
+            (Appends (told_by W.contents self.old) (told_by W.contents self.new) piece.now) }
+        ensures err { OnErr result
+            (AppendsFront (told_by W.contents self.old) (told_by W.contents self.new) piece.now) }
+        ensures later { self.old.faults ≤ self.new.faults }
+        ensures cause { result ≡ Err PutFault.Failed → Rose self.old.faults self.new.faults }
+
+        // Beside what the trait says: it takes no memory, and each error counts as one fault, and nothing
+        // else counts.
+        ensures no_want { result ≢ Err PutFault.NoMemory }
+        ensures raised { OnErr result (self.new.faults ≡ counted self.old.faults) }
+        ensures stays { OnOk result (self.new.faults ≡ self.old.faults) }
+    {
         let mut rest = piece;
         while !rest.is_empty() {
             match self.inner.write(rest) {

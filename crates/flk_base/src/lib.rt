@@ -8,6 +8,8 @@ mod fuse;
 mod hexadecimal;
 mod memory;
 mod streams;
+#[cfg(test)]
+mod tests;
 
 pub use buffer::{Bytes, NoMemory};
 pub use edge::{StdSink, StdSource};

@@ -2,5 +2,7 @@
 #![tactic(auto)]
 
 mod bank;
+#[cfg(test)]
+mod tests;
 
 pub use bank::{Bank, NoRegister};
