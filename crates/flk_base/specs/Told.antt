@@ -15,12 +15,6 @@ AppendsWhereTold None new bytes = ⊤
 AppendsWhereTold (Some xs) None bytes = ⊤
 AppendsWhereTold (Some xs) (Some ys) bytes = ys ≡ xs ++ bytes
 
--- these bytes were taken from the front, where they are told before and after
-abbrev pub ConsumesWhereTold : Option (List ℕ) → Option (List ℕ) → List ℕ → Type 0
-ConsumesWhereTold None new bytes = ⊤
-ConsumesWhereTold (Some xs) None bytes = ⊤
-ConsumesWhereTold (Some xs) (Some ys) bytes = xs ≡ bytes ++ ys
-
 -- the bytes grow by a front of the piece, which is not all of a piece that has bytes
 pub record AppendsFront (old new : Option (List ℕ)) (piece : List ℕ) : Type 0 where
   pub front : List ℕ

@@ -17,9 +17,9 @@ extended_chains chains r text h =
     ap (λ v. slice_set (map value chains) r (extended v text)) at ∙ sym (map-set value chains r (chain_of chains r ▷ text))
 
 -- a board whose register was extended stands for the platform after it
-pub stands_extended : (p : Platform) (board new : BoardParts) (disk : SimDisk) (r : ℕ) (text : List ℕ) → Stands p board disk → (register_count ≤ r → ⊥)
+pub stands_extended : (p : Platform) (board new : BoardParts) (disk : SimDisk) (r : ℕ) (text : List ℕ) → Stands p (record { board = board; disk = disk }) → (register_count ≤ r → ⊥)
     → new.registers ≡ slice_set board.registers r (extended (slice_index_or board.registers r []) (host_front ++ text))
-    → Stands (after (ExtendBy r text) p) new disk
+    → Stands (after (ExtendBy r text) p) (record { board = new; disk = disk })
 stands_extended p board new disk r text s few n =
     let at : r < length p.chains = omega (arith, s.count) in
     let is : nat_lt r register_count ≡ true = grind (arith, nat_tests) in

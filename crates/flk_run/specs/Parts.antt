@@ -8,12 +8,12 @@ use Rattle.flk_run.specs.Platform.{Platform}
 pub record BoardParts : Type 0 where
   pub registers : List (List ℕ)
 
--- a runner's board and disk
-pub record RunnerParts : Type 0 where
+-- a board and a disk
+pub record Machine : Type 0 where
   pub board : BoardParts
   pub disk : SimDisk
 
 -- the board and the disk hold what the platform says: each register the value of its chain
-pub record Stands (p : Platform) (board : BoardParts) (disk : SimDisk) : Type 0 where
+pub record Stands (p : Platform) (m : Machine) : Type 0 where
   pub count : length p.chains ≡ register_count
-  pub registers : board.registers ≡ map value p.chains
+  pub registers : m.board.registers ≡ map value p.chains

@@ -13,10 +13,10 @@ use script_text::Event;
 /// Does an event, for whose line there is room.
 pub(crate) fn do_event(mut board: Board, number: u32, event: &Event, answer: &mut Bytes) -> Board
     requires { 64 ≤ answer.old.spare }
-    ensures written { (p : Platform) (disk : DiskView) → Stands p board disk
+    ensures written { (p : Platform) (disk : DiskView) → Stands p (record { board = board; disk = disk })
         → answer.new.bytes ≡ answer.old.bytes ++ transcript_line number (request_of event.now) p }
-    ensures leaves { (p : Platform) (disk : DiskView) → Stands p board disk
-        → Stands (after (request_of event.now) p) result disk }
+    ensures leaves { (p : Platform) (disk : DiskView) → Stands p (record { board = board; disk = disk })
+        → Stands (after (request_of event.now) p) (record { board = result; disk = disk }) }
 {
     match event {
         Event::Blank => return board,

@@ -4,7 +4,9 @@
 mod answers;
 mod board;
 mod events;
+mod run;
 mod runner;
 
 pub use board::{Board, SimDisk, Spans};
+pub use run::{RunEnd, run_script};
 pub use runner::{Runner, StepEnd};

@@ -25,9 +25,9 @@ pub struct Runner {
 }
 
 impl Model for Runner {
-    ghost use Rattle.flk_run.specs.Parts.{RunnerParts};
+    ghost use Rattle.flk_run.specs.Parts.{Machine};
 
-    ghost Value = { RunnerParts };
+    ghost Value = { Machine };
 
     ghost view = { λ r. record { board = r.board; disk = r.disk } };
 }
@@ -50,11 +50,11 @@ impl Runner {
     /// memory before its first step.
     pub fn step(self, number: u32, event: &Event, answer: &mut Bytes) -> (Runner, StepEnd)
         // For every platform that the board and the disk hold, the line is the platform's.
-        ensures written { result.1 ≡ StepEnd.Done → (p : Platform) → Stands p self.board self.disk
+        ensures written { result.1 ≡ StepEnd.Done → (p : Platform) → Stands p self
             → answer.new.bytes ≡ answer.old.bytes ++ transcript_line number (request_of event.now) p }
         // And they hold the platform after the event.
-        ensures leaves { result.1 ≡ StepEnd.Done → (p : Platform) → Stands p self.board self.disk
-            → Stands (after (request_of event.now) p) result.0.board result.0.disk }
+        ensures leaves { result.1 ≡ StepEnd.Done → (p : Platform) → Stands p self
+            → Stands (after (request_of event.now) p) result.0 }
         // Want of memory leaves all as it was.
         ensures kept { result.1 ≡ StepEnd.NoMemory → result.0 ≡ self }
         ensures unwritten { result.1 ≡ StepEnd.NoMemory → answer.new.bytes ≡ answer.old.bytes }

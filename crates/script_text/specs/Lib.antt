@@ -1,5 +1,7 @@
+pub mod Buffered
 pub mod Grammar
 pub mod Lines
+pub mod Reader
 pub mod Reading
 pub mod Seen
 pub mod Words

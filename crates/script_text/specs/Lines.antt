@@ -1,5 +1,5 @@
 -- How the bytes of a script are cut into lines, and a line into words.
-use Rattle.std.specs.Prelude.{ℕ, ◌+◌, ◌-◌, ◌==◌, ◌||◌, ◌&&◌, not, nat_le, nat_lt, Bool, true, false, List, [], ◌∷◌, ◌++◌, length, take, filter, slice_index, if◌then◌else◌}
+use Rattle.std.specs.Prelude.{ℕ, zero, suc, ◌+◌, ◌-◌, ◌==◌, ◌||◌, ◌&&◌, not, nat_le, nat_lt, Bool, true, false, List, [], ◌∷◌, ◌++◌, length, take, filter, slice_index, if◌then◌else◌}
 use Rattle.std.specs.List.{AllPass, slice_split}
 
 -- the most bytes that a line may have, without its LF
@@ -42,6 +42,12 @@ rest_of bytes = last_of (slice_split is_line_end bytes)
 abbrev pub with_ends : List (List ℕ) → List ℕ
 with_ends [] = []
 with_ends (line ∷ lines) = line ++ 10 ∷ with_ends lines
+
+-- what stands behind the first n LFs
+abbrev pub behind_lines : ℕ → List ℕ → List ℕ
+behind_lines zero bytes = bytes
+behind_lines (suc n) [] = []
+behind_lines (suc n) (c ∷ cs) = if is_line_end c then behind_lines n cs else behind_lines (suc n) cs
 
 -- there are bytes
 abbrev pub has_bytes : List ℕ → Bool

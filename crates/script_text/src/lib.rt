@@ -3,6 +3,8 @@
 
 mod line;
 mod numbers;
+mod reader;
 mod words;
 
 pub use line::{BadLine, Event, LineFault, one_request, read_line};
+pub use reader::{AnyEnd, LineEnd, LineReader};

@@ -1,0 +1,18 @@
+use Rattle.std.proofs.Common.{◌≡◌, ◌≤◌, true, length}
+use Rattle.std.specs.Io.KnownBytes.{IsAtEnd}
+use Rattle.script_text.specs.Reader.{read_size}
+use Rattle.flk_run.proofs.RunLemmas.{Progress}
+use Rattle.flk_run.proofs.run.run_lines.Given as goal
+
+-- the lines before this one are good, done and written, and the reader is not far ahead
+abbrev pub invariant-loop-before : goal.invariant-loop-before
+invariant-loop-before g l =
+    let left = g.S.Source.left in
+    let contents = g.K.Sink.contents in
+    record {
+      far : Progress l.before l.reader (left l.fn.source) (left l.source) (contents l.fn.out) (contents l.out) l.fn.runner l.runner;
+      end : l.reader.ended ≡ true → IsAtEnd (left l.source);
+      near : length l.reader.bytes ≤ read_size;
+      later : g.S.Source.fault_count l.fn.source ≤ g.S.Source.fault_count l.source;
+      later_out : g.K.Sink.fault_count l.fn.out ≤ g.K.Sink.fault_count l.out;
+    }

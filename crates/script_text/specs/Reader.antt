@@ -1,0 +1,99 @@
+-- What a reader of lines gives, and what it holds.
+use Rattle.std.specs.Prelude.{◌≡◌, ◌≢◌, ◌⊎◌, ℕ, ◌+◌, ◌≤◌, Bool, true, false, List, [], ◌∷◌, ◌++◌, length, Option}
+use Rattle.std.specs.Io.KnownBytes.{Consumes}
+use Rattle.flk_base.specs.Told.{KeepsWhereTold}
+use Rattle.script_text.specs.Lines.{longest_line, IsOneLine}
+use Rattle.script_text.specs.declared.reader.LineEnd.{LineEnd}
+use Rattle.script_text.specs.declared.reader.LineEnd.TheVariants as line
+use Rattle.script_text.specs.declared.reader.AnyEnd.{AnyEnd}
+use Rattle.script_text.specs.declared.reader.AnyEnd.TheVariants as any
+
+-- the bytes that were taken and not yet given, whether the source gave its end, and the line given last
+pub record Held : Type 0 where
+  pub bytes : List ℕ
+  pub ended : Bool
+  pub line : List ℕ
+
+-- one more byte than a line may have stand at the front, and none is an LF
+pub record HasLongFront (bytes : List ℕ) : Type 0 where
+  pub front : List ℕ
+  pub more : List ℕ
+  pub whole : bytes ≡ front ++ more
+  pub long : length front ≡ longest_line + 1
+  pub one : IsOneLine front
+
+-- no whole line is held and none that is too long, and more may come
+pub record WantsMore (held : Held) : Type 0 where
+  pub open_end : held.ended ≡ false
+  pub short : length held.bytes ≤ longest_line
+  pub one : IsOneLine held.bytes
+
+-- The line and its LF stand at the front of the bytes, and the rest is held; or the line is all the bytes,
+-- and the source gave its end behind it.
+abbrev pub GivesFirst : List ℕ → Held → Type 0
+GivesFirst bytes held =
+    (bytes ≡ held.line ++ 10 ∷ held.bytes)
+    ⊎ ((held.ended ≡ true) × (bytes ≡ held.line) × (held.line ≢ []) × (held.bytes ≡ []))
+
+-- where these bytes were held or taken: what each answer of `next` says, and what is held after it
+abbrev pub AfterNext : LineEnd → List ℕ → Held → Type 0
+AfterNext line.Line bytes held = IsOneLine held.line × (length held.line ≤ longest_line) × GivesFirst bytes held
+AfterNext line.End bytes held = (held.ended ≡ true) × (bytes ≡ []) × (held.bytes ≡ []) × (held.line ≡ [])
+AfterNext line.Long bytes held = HasLongFront bytes × (held.bytes ≡ bytes) × (held.line ≡ [])
+AfterNext line.Failed bytes held = WantsMore held × (held.bytes ≡ bytes) × (held.line ≡ [])
+
+-- what each answer of `any` says
+abbrev pub AfterAny : AnyEnd → List ℕ → Held → Type 0
+AfterAny any.Some bytes held = (bytes ≢ []) × (held.bytes ≡ bytes) × (held.line ≡ [])
+AfterAny any.End bytes held = (held.ended ≡ true) × (bytes ≡ []) × (held.bytes ≡ []) × (held.line ≡ [])
+AfterAny any.Failed bytes held = (held.ended ≡ false) × (bytes ≡ []) × (held.bytes ≡ []) × (held.line ≡ [])
+
+-- these bytes were taken, and then a read failed: it took nothing, but the source may tell no more
+pub record TakenUntilFault (before now : Option (List ℕ)) (taken : List ℕ) : Type 0 where
+  pub left : Option (List ℕ)
+  pub consumed : Consumes before left taken
+  pub kept : KeepsWhereTold left now
+
+-- these bytes were taken
+abbrev pub TakenByNext : LineEnd → Option (List ℕ) → Option (List ℕ) → List ℕ → Type 0
+TakenByNext line.Line before now taken = Consumes before now taken
+TakenByNext line.End before now taken = Consumes before now taken
+TakenByNext line.Long before now taken = Consumes before now taken
+TakenByNext line.Failed before now taken = TakenUntilFault before now taken
+
+-- the same of `any`
+abbrev pub TakenByAny : AnyEnd → Option (List ℕ) → Option (List ℕ) → List ℕ → Type 0
+TakenByAny any.Some before now taken = Consumes before now taken
+TakenByAny any.End before now taken = Consumes before now taken
+TakenByAny any.Failed before now taken = TakenUntilFault before now taken
+
+-- what `next` took from the source, and what it left, where the source had and has these bytes left
+pub record Next (end : LineEnd) (old new : Held) (before now : Option (List ℕ)) : Type 0 where
+  pub taken : List ℕ
+  pub consumed : TakenByNext end before now taken
+  pub after : AfterNext end (old.bytes ++ taken) new
+
+-- the same of `any`
+pub record Any (end : AnyEnd) (old new : Held) (before now : Option (List ℕ)) : Type 0 where
+  pub taken : List ℕ
+  pub consumed : TakenByAny end before now taken
+  pub after : AfterAny end (old.bytes ++ taken) new
+
+-- nothing is read: the answer is about what was held, and the end is given or not as before
+abbrev pub NextOfHeld : LineEnd → Held → Held → Type 0
+NextOfHeld end old new = AfterNext end old.bytes new × (new.ended ≡ old.ended)
+
+-- the same of `any`
+abbrev pub AnyOfHeld : AnyEnd → Held → Held → Type 0
+AnyOfHeld end old new = AfterAny end old.bytes new × (new.ended ≡ old.ended)
+
+-- the most bytes that one read takes
+abbrev pub read_size : ℕ
+read_size = 65536
+
+-- how far the reader is ahead of the line that it gave, or of the front of one that is too long
+abbrev pub IsAhead : LineEnd → Held → Type 0
+IsAhead line.Line held = length held.bytes ≤ read_size
+IsAhead line.End held = Unit {0}
+IsAhead line.Long held = length held.bytes ≤ longest_line + 1 + read_size
+IsAhead line.Failed held = Unit {0}
