@@ -1,0 +1,3 @@
+pub mod MacLengths
+pub mod Masks
+pub mod Pads

@@ -1,0 +1,6 @@
+pub mod Frames
+pub mod HeldSpans
+pub mod MarkLemmas
+pub mod PlaceLemmas
+pub mod PoolMarks
+pub mod Search
