@@ -4,6 +4,8 @@
 mod fault;
 mod finished;
 mod messages;
+#[cfg(test)]
+mod tests;
 mod top;
 mod words;
 

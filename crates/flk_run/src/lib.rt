@@ -6,6 +6,8 @@ mod board;
 mod events;
 mod run;
 mod runner;
+#[cfg(test)]
+mod tests;
 
 pub use board::{Board, SimDisk, Spans};
 pub use run::{RunEnd, run_script};

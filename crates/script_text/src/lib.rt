@@ -4,6 +4,8 @@
 mod line;
 mod numbers;
 mod reader;
+#[cfg(test)]
+mod tests;
 mod words;
 
 pub use line::{BadLine, Event, LineFault, one_request, read_line};

@@ -1,0 +1,103 @@
+// Each public call once on its happy path, and runs over a source and a sink in memory.
+use crate::board::{Board, SimDisk};
+use crate::run::{RunEnd, run_script};
+use crate::runner::{Runner, StepEnd};
+use flk_base::{Bytes, MemSink, MemSource};
+use script_text::{BadLine, LineFault, read_line};
+use std::test::Fail;
+
+fn runner(rt: &HostRuntime) -> Result<Runner, Fail> {
+    let Ok(board) = Board::blank(rt.alloc()) else {
+        return Err(Fail::from("no board"));
+    };
+    let Ok(disk) = SimDisk::blank(rt.alloc()) else {
+        board.scrap();
+        return Err(Fail::from("no disk"));
+    };
+    Ok(Runner::new(rt.alloc(), board, disk))
+}
+
+fn spend(runner: Runner) {
+    let (mut board, disk, spans) = runner.finish();
+    spans.give_all(&mut board);
+    board.scrap();
+    disk.scrap();
+}
+
+#[test]
+fn one_event_after_another(rt: HostRuntime) -> Result<(), Fail> {
+    let rows: [(&str, &str); 5] = [
+        (
+            "read 17",
+            "7 ok x:ffffffffffffffffffffffffffffffffffffffff\n",
+        ),
+        ("", ""),
+        ("extend 0 x:", "7 ok\n"),
+        // SHA-1 of 20 zeros and the SHA-1 of `host`, by python3's hashlib.
+        (
+            "read 0",
+            "7 ok x:0f1bdaadb3340e884d0b56a2e18f0e9dbccb8372\n",
+        ),
+        ("extend 24 x:00", "7 no register\n"),
+    ];
+    let mut runner = runner(&rt)?;
+    for (line, wanted) in rows {
+        let Ok(event) = read_line(rt.alloc(), line.as_bytes()) else {
+            spend(runner);
+            return Err(Fail::from("a bad line"));
+        };
+        let mut answer = Bytes::new(rt.alloc());
+        let (next, end) = runner.step(7, &event, &mut answer);
+        runner = next;
+        if end != StepEnd::Done || answer.as_slice() != wanted.as_bytes() {
+            spend(runner);
+            return Err(Fail::from("another answer"));
+        }
+    }
+    spend(runner);
+    Ok(())
+}
+
+// How a run of the script ended, and what it wrote.
+fn run(
+    rt: &HostRuntime,
+    script: &str,
+    piece: u32,
+    failing_reads: &[u32],
+    failing_puts: &[u32],
+) -> Result<(RunEnd, MemSink), Fail> {
+    let mut source = MemSource::new(rt.alloc(), script.as_bytes(), failing_reads, piece.max(1))?;
+    let mut out = MemSink::new(rt.alloc(), failing_puts)?;
+    let runner = runner(rt)?;
+    let (runner, end) = run_script(rt.alloc(), &mut source, &mut out, runner);
+    spend(runner);
+    Ok((end, out))
+}
+
+#[test]
+fn runs(rt: HostRuntime) -> Result<(), Fail> {
+    let script = "extend 0 x:\n\nextend 99 x:\nreed\nextend 1 x:\n";
+    for piece in [1, 7, 65_536] {
+        let (end, out) = run(&rt, script, piece, &[], &[])?;
+        assert_eq!(rt; end, RunEnd::Bad(4, BadLine::Faulty(LineFault::Command)));
+        assert_eq!(rt; out.contents(), b"1 ok\n3 no register\n".as_slice());
+    }
+    // The third read fails: the whole lines of the first two are done.
+    let (end, out) = run(&rt, "extend 0 x:\nextend 1 x:\n", 13, &[2], &[])?;
+    assert_eq!(rt; end, RunEnd::ReadFault);
+    assert_eq!(rt; out.contents(), b"1 ok\n2 ok\n".as_slice());
+    // The second put fails: no line after it is begun.
+    let (end, out) = run(
+        &rt,
+        "extend 0 x:\nextend 1 x:\nextend 2 x:\n",
+        99,
+        &[],
+        &[1],
+    )?;
+    assert_eq!(rt; end, RunEnd::WriteFault);
+    assert_eq!(rt; out.contents(), b"1 ok\n".as_slice());
+    let (end, out) = run(&rt, "extend 0 x:", 99, &[], &[])?;
+    assert_eq!(rt; end, RunEnd::Done);
+    assert_eq!(rt; out.contents(), b"1 ok\n".as_slice());
+    Ok(())
+}
