@@ -1,0 +1,16 @@
+//! The instructions of the i386 that this machine knows: their spellings, their decoding and encoding, and what
+//! each does to registers, flags and a segment of memory. Nothing here takes memory.
+#![tactic(auto)]
+
+mod arithmetic;
+mod cpu;
+mod effects;
+mod ins;
+mod operands;
+mod reading;
+mod segment;
+
+pub use cpu::{Cpu, FaultKind, Step};
+pub use ins::{AluOp, Cond, Ins, ShiftOp, UnaryOp};
+pub use operands::{ByteReg, Mem, Reg, Rm};
+pub use segment::{Outside, Segment};
