@@ -35,6 +35,12 @@ abbrev pub chosen_rm : ℕ → Rm → List ℕ
 chosen_rm reg (rms.Reg r) = modrm 3 reg (reg_code r) ∷ []
 chosen_rm reg (rms.Mem m) = chosen_memory reg m.base m.disp
 
+-- the sign-extended byte where it fits
+abbrev pub chosen_alu_imm : ℕ → Rm → ℕ → List ℕ
+chosen_alu_imm code rm n =
+  if is_signed_byte n then one_byte 0x83 ++ chosen_rm code rm ++ low_byte n
+  else one_byte 0x81 ++ chosen_rm code rm ++ doubleword n
+
 -- the table
 abbrev pub chosen : Ins → List ℕ
 chosen (Load r n) = one_byte (0xB8 + reg_code r) ++ doubleword n
@@ -48,9 +54,7 @@ chosen (WidenReg r b) = two_byte 0xB6 ++ chosen_rm (reg_code r) (rms.Reg (whole_
 chosen (Lea r m) = one_byte 0x8D ++ chosen_rm (reg_code r) (rms.Mem m)
 chosen (Alu op rm r) = one_byte (alu_opcode op) ++ chosen_rm (reg_code r) rm
 chosen (AluFrom op r m) = one_byte (alu_from_opcode op) ++ chosen_rm (reg_code r) (rms.Mem m)
-chosen (AluImm op rm n) =
-  if is_signed_byte n then one_byte 0x83 ++ chosen_rm (alu_code op) rm ++ low_byte n
-  else one_byte 0x81 ++ chosen_rm (alu_code op) rm ++ doubleword n
+chosen (AluImm op rm n) = chosen_alu_imm (alu_code op) rm n
 chosen (Test rm r) = one_byte 0x85 ++ chosen_rm (reg_code r) rm
 chosen (Inc r) = one_byte (0x40 + reg_code r)
 chosen (Dec r) = one_byte (0x48 + reg_code r)

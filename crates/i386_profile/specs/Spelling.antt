@@ -118,3 +118,7 @@ Spells Nop bytes = bytes ≡ one_byte 0x90
 -- The first n bytes spell the instruction.
 abbrev pub Begins : Ins → ℕ → List ℕ → Type 0
 Begins ins n bytes = (n ≤ length bytes) × Spells ins (take n bytes)
+
+-- No front of the bytes spells an instruction.
+abbrev pub NoneBegins : List ℕ → Type 0
+NoneBegins bytes = (ins : Ins) (n : ℕ) → ¬ Begins ins n bytes

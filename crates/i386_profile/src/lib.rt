@@ -4,13 +4,19 @@
 
 mod arithmetic;
 mod cpu;
+mod decoding;
 mod effects;
+mod encoding;
 mod ins;
 mod operands;
 mod reading;
 mod segment;
+mod writer;
 
 pub use cpu::{Cpu, FaultKind, Step};
+pub use decoding::{Undecoded, decode, one_spelling};
+pub use effects::exec;
+pub use encoding::{chosen_spells, encode, round_trip};
 pub use ins::{AluOp, Cond, Ins, ShiftOp, UnaryOp};
 pub use operands::{ByteReg, Mem, Reg, Rm};
 pub use segment::{Outside, Segment};
