@@ -34,13 +34,13 @@ is_found bytes rest ins fits e =
     let total : length bytes ≡ length t.text + length rest = ap length t.parts ∙ length-append t.text rest in
     let len : length t.text ≡ length bytes - length rest = omega arith in
     let front : take (length bytes - length rest) bytes ≡ t.text =
-      ap (take (length bytes - length rest)) t.parts ∙ take_at t.text rest (length bytes - length rest) len in
+    ap (take (length bytes - length rest)) t.parts ∙ take_at t.text rest (length bytes - length rest) len in
     let within = bounded ins t.text t.spelled in
     record {
       shorter = omega arith;
       begins = (omega arith, subst (Spells ins) (sym front) t.spelled);
       least = omega arith;
-      most = omega arith
+      most = omega arith;
     }
 
 begun : (bytes : List ℕ) (ins : Ins) (n : ℕ) → Begins ins n bytes → instruction_at bytes ≡ Some (ins, drop n bytes)

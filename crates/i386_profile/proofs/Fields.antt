@@ -75,14 +75,14 @@ byte_takes [] n rest fits e = absurd cc
 byte_takes (b ∷ bytes) n rest fits e =
     let same = some_is (b, bytes) (n, rest) e in
     subst (λ (p : ℕ × List ℕ). Took (IsByte p.0) (b ∷ bytes) p.1) same
-      (record { text = b ∷ []; spelled = (fits 0, refl); parts = refl; rest_fits = IsBytes-rest b bytes fits })
+    (record { text = b ∷ []; spelled = (fits 0, refl); parts = refl; rest_fits = IsBytes-rest b bytes fits })
 
 pub signed_takes : (bytes : List ℕ) (n : ℕ) (rest : List ℕ) → IsBytes bytes → signed_byte_at bytes ≡ Some (n, rest) → Took (IsSignedByte n) bytes rest
 signed_takes [] n rest fits e = absurd cc
 signed_takes (b ∷ bytes) n rest fits e =
     let same = some_is (sign_extended b, bytes) (n, rest) e in
     subst (λ (p : ℕ × List ℕ). Took (IsSignedByte p.0) (b ∷ bytes) p.1) same
-      (record { text = b ∷ []; spelled = (b, fits 0, refl, refl); parts = refl; rest_fits = IsBytes-rest b bytes fits })
+    (record { text = b ∷ []; spelled = (b, fits 0, refl, refl); parts = refl; rest_fits = IsBytes-rest b bytes fits })
 
 pub doubleword_takes : (bytes : List ℕ) (n : ℕ) (rest : List ℕ) → IsBytes bytes → doubleword_at bytes ≡ Some (n, rest) → Took (IsDoubleword n) bytes rest
 doubleword_takes bytes n rest fits e =
@@ -96,7 +96,7 @@ doubleword_takes bytes n rest fits e =
           let below : from_le_bytes w32 (take 4 bytes) < 2 ^ 32 = omega (arith, front 0, front 1, front 2, front 3) in
           let back : to_le_bytes w32 (from_le_bytes w32 (take 4 bytes)) ≡ take 4 bytes = le_bytes_4 (take 4 bytes) _ len front refl in
           subst (λ (p : ℕ × List ℕ). Took (IsDoubleword p.0) bytes p.1) same
-            (record { text = take 4 bytes; spelled = (below, sym back); parts = sym (take-append-drop 4 bytes); rest_fits = IsBytes-drop 4 bytes fits })
+          (record { text = take 4 bytes; spelled = (below, sym back); parts = sym (take-append-drop 4 bytes); rest_fits = IsBytes-drop 4 bytes fits })
     ]
 
 -- ---- registers and ModRM

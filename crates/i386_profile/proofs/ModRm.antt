@@ -61,24 +61,24 @@ displaced_takes mode reg base bytes rm rest fits lt other e =
           let is : mode ≡ 0 = eqb-true mode 0 zero-is in
           let same = some_is (at (Some base) 0, bytes) (rm, rest) h in
           subst (λ (p : Rm × List ℕ). Displaced mode reg base p.0 bytes p.1) same
-            (record { text = []; spelled = (mode, [], inl (is, λ ebp. other ebp is, refl, refl), refl); parts = refl; rest_fits = fits })
+          (record { text = []; spelled = (mode, [], inl (is, λ ebp. other ebp is, refl, refl), refl); parts = refl; rest_fits = fits })
       | inr (nonzero, h) ↦ elim (branch (eqb mode 1) _ _ _ h) [
-          | inl (one-is, k) ↦
-              let b = bind_some (signed_byte_at bytes) _ _ k in
-              let t = signed_takes bytes b.0.0 b.0.1 fits b.1 in
-              let same = some_is (at (Some base) b.0.0, b.0.1) (rm, rest) b.2 in
-              subst (λ (p : Rm × List ℕ). Displaced mode reg base p.0 bytes p.1) same
-                (record { text = t.text; spelled = (mode, t.text, inr (inl (eqb-true mode 1 one-is, t.spelled)), refl); parts = t.parts; rest_fits = t.rest_fits })
-          | inr (not_one, k) ↦
-              let b = bind_some (doubleword_at bytes) _ _ k in
-              let t = doubleword_takes bytes b.0.0 b.0.1 fits b.1 in
-              let same = some_is (at (Some base) b.0.0, b.0.1) (rm, rest) b.2 in
-              let not0 = eqb-false mode 0 nonzero in
-              let not1 = eqb-false mode 1 not_one in
-              let is : mode ≡ 2 = omega (arith, not0, not1) in
-              subst (λ (p : Rm × List ℕ). Displaced mode reg base p.0 bytes p.1) same
-                (record { text = t.text; spelled = (mode, t.text, inr (inr (is, t.spelled)), refl); parts = t.parts; rest_fits = t.rest_fits })
-        ]
+        | inl (one-is, k) ↦
+            let b = bind_some (signed_byte_at bytes) _ _ k in
+            let t = signed_takes bytes b.0.0 b.0.1 fits b.1 in
+            let same = some_is (at (Some base) b.0.0, b.0.1) (rm, rest) b.2 in
+            subst (λ (p : Rm × List ℕ). Displaced mode reg base p.0 bytes p.1) same
+            (record { text = t.text; spelled = (mode, t.text, inr (inl (eqb-true mode 1 one-is, t.spelled)), refl); parts = t.parts; rest_fits = t.rest_fits })
+        | inr (not_one, k) ↦
+            let b = bind_some (doubleword_at bytes) _ _ k in
+            let t = doubleword_takes bytes b.0.0 b.0.1 fits b.1 in
+            let same = some_is (at (Some base) b.0.0, b.0.1) (rm, rest) b.2 in
+            let not0 = eqb-false mode 0 nonzero in
+            let not1 = eqb-false mode 1 not_one in
+            let is : mode ≡ 2 = omega (arith, not0, not1) in
+            subst (λ (p : Rm × List ℕ). Displaced mode reg base p.0 bytes p.1) same
+            (record { text = t.text; spelled = (mode, t.text, inr (inr (is, t.spelled)), refl); parts = t.parts; rest_fits = t.rest_fits })
+      ]
     ]
 
 based_other : (mode reg : ℕ) (base : Reg) → base ≢ Esp → based mode reg base ≡ modrm mode reg (reg_code base) ∷ []
@@ -96,12 +96,12 @@ after_modrm : (m : ℕ) (base : Reg) (rm : Rm) (bytes rest : List ℕ) → m % 8
     → Displaced (m / 64) (m / 8 % 8) base rm bytes rest → Took (SpellsRm (m / 8 % 8) rm) (m ∷ bytes) rest
 after_modrm m base rm bytes rest code-is other d =
     let head : based (m / 64) (m / 8 % 8) base ≡ m ∷ [] =
-      based_other _ _ base other ∙ ap (λ k. modrm (m / 64) (m / 8 % 8) k ∷ []) (sym code-is) ∙ ap (λ k. k ∷ []) (modrm_again m) in
+    based_other _ _ base other ∙ ap (λ k. modrm (m / 64) (m / 8 % 8) k ∷ []) (sym code-is) ∙ ap (λ k. k ∷ []) (modrm_again m) in
     record {
       text = m ∷ d.text;
       spelled = subst (λ (f : List ℕ). SpellsRm (m / 8 % 8) rm (f ++ d.text)) head d.spelled;
       parts = ap (λ (r : List ℕ). m ∷ r) d.parts;
-      rest_fits = d.rest_fits
+      rest_fits = d.rest_fits;
     }
 
 -- mod 11
@@ -111,9 +111,9 @@ register_takes m bytes rm rest fits three e =
     let same = some_is (rms.Reg (reg_of (m % 8)), bytes) (rm, rest) e in
     let below : m % 8 < 8 = omega arith in
     let byte-is : m ≡ modrm 3 (m / 8 % 8) (reg_code (reg_of (m % 8))) =
-      sym (modrm_again m) ∙ ap (λ k. modrm k (m / 8 % 8) (m % 8)) three ∙ ap (modrm 3 (m / 8 % 8)) (sym (reg_takes (m % 8) below)) in
+    sym (modrm_again m) ∙ ap (λ k. modrm k (m / 8 % 8) (m % 8)) three ∙ ap (modrm 3 (m / 8 % 8)) (sym (reg_takes (m % 8) below)) in
     subst (λ (p : Rm × List ℕ). Took (SpellsRm (m / 8 % 8) p.0) (m ∷ bytes) p.1) same
-      (record { text = m ∷ []; spelled = ap (λ k. k ∷ []) byte-is; parts = refl; rest_fits = fits })
+    (record { text = m ∷ []; spelled = ap (λ k. k ∷ []) byte-is; parts = refl; rest_fits = fits })
 
 -- rm 100 and the SIB byte 24
 sib_takes : (m sib : ℕ) (bytes after : List ℕ) (rm : Rm) (rest : List ℕ) → m / 64 < 3 → m % 8 ≡ 4 → sib ≡ 0x24 → Took (IsByte sib) bytes after
@@ -121,13 +121,13 @@ sib_takes : (m sib : ℕ) (bytes after : List ℕ) (rm : Rm) (rest : List ℕ) �
 sib_takes m sib bytes after rm rest memory four is t e =
     let d = displaced_takes (m / 64) (m / 8 % 8) Esp after rm rest t.rest_fits memory (λ same. absurd cc) e in
     let head : based (m / 64) (m / 8 % 8) Esp ≡ m ∷ t.text =
-      ap (λ k. modrm (m / 64) (m / 8 % 8) k ∷ 0x24 ∷ []) (sym four) ∙ ap (λ k. k ∷ 0x24 ∷ []) (modrm_again m)
-        ∙ ap (λ k. m ∷ k ∷ []) (sym is) ∙ ap (λ (u : List ℕ). m ∷ u) (sym t.spelled.1) in
+    ap (λ k. modrm (m / 64) (m / 8 % 8) k ∷ 0x24 ∷ []) (sym four) ∙ ap (λ k. k ∷ 0x24 ∷ []) (modrm_again m)
+    ∙ ap (λ k. m ∷ k ∷ []) (sym is) ∙ ap (λ (u : List ℕ). m ∷ u) (sym t.spelled.1) in
     record {
       text = (m ∷ t.text) ++ d.text;
       spelled = subst (λ (f : List ℕ). SpellsRm (m / 8 % 8) rm (f ++ d.text)) head d.spelled;
       parts = ap (λ (r : List ℕ). m ∷ r) (t.parts ∙ ap (λ (r : List ℕ). t.text ++ r) d.parts ∙ sym (append_assoc t.text d.text rest));
-      rest_fits = d.rest_fits
+      rest_fits = d.rest_fits;
     }
 
 -- mod 00 with rm 101
@@ -142,7 +142,7 @@ absolute_takes m bytes rm rest fits absolute five e =
     let same = some_is (at None b.0.0, b.0.1) (rm, rest) b.2 in
     let head : m ≡ modrm 0 (m / 8 % 8) 5 = sym (modrm_again m) ∙ ap (λ k. modrm k (m / 8 % 8) (m % 8)) absolute ∙ ap (modrm 0 (m / 8 % 8)) five in
     subst (λ (p : Rm × List ℕ). Took (SpellsRm (m / 8 % 8) p.0) (m ∷ bytes) p.1) same
-      (record { text = m ∷ t.text; spelled = (t.text, t.spelled, ap (λ k. k ∷ t.text) head); parts = ap (λ (r : List ℕ). m ∷ r) t.parts; rest_fits = t.rest_fits })
+    (record { text = m ∷ t.text; spelled = (t.text, t.spelled, ap (λ k. k ∷ t.text) head); parts = ap (λ (r : List ℕ). m ∷ r) t.parts; rest_fits = t.rest_fits })
 
 -- a base that has neither
 plain_takes : (m : ℕ) (bytes : List ℕ) (rm : Rm) (rest : List ℕ) → IsBytes bytes → m / 64 < 3 → m % 8 ≢ 4 → m % 8 ≢ 5
@@ -169,13 +169,13 @@ rm_takes m bytes rm rest lt fits e =
                   | inr (_, l) ↦ absurd (let none : ◌≡◌ {A = Option (Rm × List ℕ)} None (Some (rm, rest)) = l in cc)
                 ]
             | inr (not_four, k) ↦ elim (branch (eqb (m % 8) 5) _ _ _ k) [
-                | inl (five, l) ↦ elim (branch (eqb (m / 64) 0) _ _ _ l) [
-                    | inl (absolute, n) ↦ absolute_takes m bytes rm rest fits (eqb-true _ _ absolute) (eqb-true _ _ five) n
-                    | inr (based, n) ↦ after_modrm m Ebp rm bytes rest (eqb-true _ _ five) (λ same. cc)
-                        (displaced_takes (m / 64) (m / 8 % 8) Ebp bytes rm rest fits memory (λ same. eqb-false _ _ based) n)
-                  ]
-                | inr (not_five, l) ↦ plain_takes m bytes rm rest fits memory (eqb-false _ _ not_four) (eqb-false _ _ not_five) l
+              | inl (five, l) ↦ elim (branch (eqb (m / 64) 0) _ _ _ l) [
+                | inl (absolute, n) ↦ absolute_takes m bytes rm rest fits (eqb-true _ _ absolute) (eqb-true _ _ five) n
+                | inr (based, n) ↦ after_modrm m Ebp rm bytes rest (eqb-true _ _ five) (λ same. cc)
+                    (displaced_takes (m / 64) (m / 8 % 8) Ebp bytes rm rest fits memory (λ same. eqb-false _ _ based) n)
               ]
+              | inr (not_five, l) ↦ plain_takes m bytes rm rest fits memory (eqb-false _ _ not_four) (eqb-false _ _ not_five) l
+            ]
           ]
     ]
 
@@ -187,4 +187,4 @@ operands_takes (m ∷ bytes) o rest fits e =
     let made : Operands = record { reg = m / 8 % 8; rm = b.0.0 } in
     let same = some_is (made, b.0.1) (o, rest) b.2 in
     subst (λ (p : Operands × List ℕ). Took (SpellsRm p.0.reg p.0.rm) (m ∷ bytes) p.1 × (p.0.reg < 8)) same
-      (rm_takes m bytes b.0.0 b.0.1 (fits 0) (IsBytes-rest m bytes fits) b.1, omega arith)
+    (rm_takes m bytes b.0.0 b.0.1 (fits 0) (IsBytes-rest m bytes fits) b.1, omega arith)

@@ -57,11 +57,11 @@ escaped_slash b opcode reg rm bytes rest e t =
 slash_immediate : (Is : ℕ → List ℕ → Type 0) (opcode reg : ℕ) (rm : Rm) (n : ℕ) (bytes mid rest : List ℕ)
     → Took (SpellsRm reg rm) bytes mid → Took (Is n) mid rest → Took (SlashImmediate Is (one_byte opcode) reg rm n) (opcode ∷ bytes) rest
 slash_immediate Is opcode reg rm n bytes mid rest t i = record {
-    text = opcode ∷ (t.text ++ i.text);
-    spelled = (t.text, i.text, t.spelled, i.spelled, refl);
-    parts = ap (λ (r : List ℕ). opcode ∷ r) (t.parts ∙ ap (λ (r : List ℕ). t.text ++ r) i.parts ∙ sym (append_assoc t.text i.text rest));
-    rest_fits = i.rest_fits
-  }
+  text = opcode ∷ (t.text ++ i.text);
+  spelled = (t.text, i.text, t.spelled, i.spelled, refl);
+  parts = ap (λ (r : List ℕ). opcode ∷ r) (t.parts ∙ ap (λ (r : List ℕ). t.text ++ r) i.parts ∙ sym (append_assoc t.text i.text rest));
+  rest_fits = i.rest_fits;
+}
 
 immediate : (Is : ℕ → List ℕ → Type 0) (b opcode n : ℕ) (bytes rest : List ℕ) → b ≡ opcode → Took (Is n) bytes rest → Took (Immediate Is (one_byte opcode) n) (b ∷ bytes) rest
 immediate Is b opcode n bytes rest e i =
@@ -173,9 +173,9 @@ alu_takes b bytes ins rest fits e =
     elim (branch (eqb (b % 8) 1) _ _ _ o.2) [
       | inl (one, h) ↦ ends _ _ ins _ rest h (as_is _ _ (λ _ s. inl s) (slash b (alu_opcode p.0) _ _ bytes o.0.1 (alu_opcode_is b p.0 code (eqb-true _ _ one)) t))
       | inr (_, h) ↦ elim (branch (eqb (b % 8) 3) _ _ _ h) [
-          | inl (three, k) ↦ ends _ _ ins _ rest k (alu_from_ends p.0 (reg_of o.0.0.reg) o.0.0.rm _ _ (slash b (alu_from_opcode p.0) _ _ bytes o.0.1 (alu_from_opcode_is b p.0 code (eqb-true _ _ three)) t))
-          | inr (_, k) ↦ nothing ins rest k
-        ]
+        | inl (three, k) ↦ ends _ _ ins _ rest k (alu_from_ends p.0 (reg_of o.0.0.reg) o.0.0.rm _ _ (slash b (alu_from_opcode p.0) _ _ bytes o.0.1 (alu_from_opcode_is b p.0 code (eqb-true _ _ three)) t))
+        | inr (_, k) ↦ nothing ins rest k
+      ]
     ]
 
 register_takes : (b : ℕ) (bytes : List ℕ) (ins : Ins) (rest : List ℕ) → IsBytes bytes → register_at b bytes ≡ found ins rest → Ends ins (b ∷ bytes) rest
@@ -240,7 +240,7 @@ jcc_takes b bytes ins rest fits high e =
       text = 0x0F ∷ b ∷ i.text;
       spelled = inl (i.text, i.spelled, ap (λ k. 0x0F ∷ k ∷ i.text) is);
       parts = ap (λ (r : List ℕ). 0x0F ∷ b ∷ r) i.parts;
-      rest_fits = i.rest_fits
+      rest_fits = i.rest_fits;
     })
 
 short_imm_takes : (bytes : List ℕ) (ins : Ins) (rest : List ℕ) → IsBytes bytes → alu_imm_at 0x83 bytes ≡ found ins rest → Ends ins (0x83 ∷ bytes) rest
@@ -267,7 +267,7 @@ mov_ins_takes : (b reg : ℕ) (rm : Rm) (bytes : List ℕ) (ins : Ins) (rest : L
 mov_ins_takes b reg rm bytes ins rest e lt raw =
     let t : Took (SpellsRm (reg_code (reg_of reg)) rm) bytes rest = subst (λ k. Took (SpellsRm k rm) bytes rest) (sym (reg_takes reg lt)) raw in
     let this : (i : Ins) → ◌≡◌ {A = Option Ins} (Some i) (Some ins) → Ends i (b ∷ bytes) rest → Ends ins (b ∷ bytes) rest =
-      λ i h made. subst (λ (j : Ins). Ends j (b ∷ bytes) rest) (some_is i ins h) made in
+    λ i h made. subst (λ (j : Ins). Ends j (b ∷ bytes) rest) (some_is i ins h) made in
     elim (branch (eqb b 0x85) _ _ _ e) [
       | inl (row, h0) ↦ this _ h0 (slash b 0x85 _ _ bytes rest (eqb-true _ _ row) t)
       | inr (_, h0) ↦ elim (branch (eqb b 0x88) _ _ _ h0) [
@@ -358,12 +358,12 @@ two_byte_takes (b ∷ bytes) ins rest fits e =
     elim (branch (eqb (b / 16) 8) _ _ _ e) [
       | inl (row, h) ↦ jcc_takes b bytes ins rest after (eqb-true _ _ row) h
       | inr (_, h) ↦ elim (branch (eqb b 0xAF) _ _ _ h) [
-          | inl (row, k) ↦ imul_takes b bytes ins rest after (eqb-true _ _ row) k
-          | inr (_, k) ↦ elim (branch (eqb b 0xB6) _ _ _ k) [
-              | inl (row, l) ↦ widen_takes b bytes ins rest after (eqb-true _ _ row) l
-              | inr (_, l) ↦ nothing ins rest l
-            ]
+        | inl (row, k) ↦ imul_takes b bytes ins rest after (eqb-true _ _ row) k
+        | inr (_, k) ↦ elim (branch (eqb b 0xB6) _ _ _ k) [
+          | inl (row, l) ↦ widen_takes b bytes ins rest after (eqb-true _ _ row) l
+          | inr (_, l) ↦ nothing ins rest l
         ]
+      ]
     ]
 
 -- ---- by the opcode
@@ -460,7 +460,7 @@ takes (b ∷ bytes) ins rest fits e =
     elim (branch (ltb b 0x80) _ _ _ e) [
       | inl (_, h) ↦ low_takes b bytes ins rest after h
       | inr (_, h) ↦ elim (branch (ltb b 0xC0) _ _ _ h) [
-          | inl (_, k) ↦ middle_takes b bytes ins rest after k
-          | inr (_, k) ↦ high_takes b bytes ins rest after k
-        ]
+        | inl (_, k) ↦ middle_takes b bytes ins rest after k
+        | inr (_, k) ↦ high_takes b bytes ins rest after k
+      ]
     ]

@@ -40,10 +40,10 @@ memory_is : (reg : ℕ) (base : Option Reg) (disp : ℕ) → disp < 2 ^ 32 → S
 memory_is reg None disp lt = (doubleword disp, (lt, refl), refl)
 memory_is reg (Some base) disp lt =
     split (SpellsMemory reg (Some base) disp) (eqb disp 0 && not (eqb (reg_code base) 5)) _ _
-      (λ e. let h = not_ebp disp base e in (0, [], inl (refl, h.0, h.1, refl), sym (append-nil (based 0 reg base))))
-      (λ _. split (SpellsMemory reg (Some base) disp) (is_signed_byte disp) _ _
-        (λ e. (1, low_byte disp, inr (inl (refl, low_byte_is disp lt e)), refl))
-        (λ _. (2, doubleword disp, inr (inr (refl, (lt, refl))), refl)))
+    (λ e. let h = not_ebp disp base e in (0, [], inl (refl, h.0, h.1, refl), sym (append-nil (based 0 reg base))))
+    (λ _. split (SpellsMemory reg (Some base) disp) (is_signed_byte disp) _ _
+    (λ e. (1, low_byte disp, inr (inl (refl, low_byte_is disp lt e)), refl))
+    (λ _. (2, doubleword disp, inr (inr (refl, (lt, refl))), refl)))
 
 rm_is : (reg : ℕ) (rm : Rm) → IsRmInRange rm → SpellsRm reg rm (chosen_rm reg rm)
 rm_is reg (rms.Reg r) h = refl
@@ -63,8 +63,8 @@ spelled (Alu op rm r) h = inl (_, rm_is (reg_code r) rm h, refl)
 spelled (AluFrom op r m) h = (_, rm_is (reg_code r) (rms.Mem m) h, refl)
 spelled (AluImm op rm n) h =
     split (Spells (AluImm op rm n)) (is_signed_byte n) _ _
-      (λ e. inl (_, _, rm_is (alu_code op) rm h.0, low_byte_is n h.1 e, refl))
-      (λ _. inr (_, _, rm_is (alu_code op) rm h.0, (h.1, refl), refl))
+    (λ e. inl (_, _, rm_is (alu_code op) rm h.0, low_byte_is n h.1 e, refl))
+    (λ _. inr (_, _, rm_is (alu_code op) rm h.0, (h.1, refl), refl))
 spelled (Test rm r) h = (_, rm_is (reg_code r) rm h, refl)
 spelled (Inc r) h = refl
 spelled (Dec r) h = refl

@@ -26,9 +26,9 @@ is_signed_byte n = nat_lt n 0x80 || nat_le 0xFFFFFF80 n
 abbrev pub chosen_memory : ℕ → Option Reg → ℕ → List ℕ
 chosen_memory reg None disp = modrm 0 reg 5 ∷ doubleword disp
 chosen_memory reg (Some base) disp =
-  if disp == 0 && not (reg_code base == 5) then based 0 reg base
-  else if is_signed_byte disp then based 1 reg base ++ low_byte disp
-  else based 2 reg base ++ doubleword disp
+    if disp == 0 && not (reg_code base == 5) then based 0 reg base
+    else if is_signed_byte disp then based 1 reg base ++ low_byte disp
+    else based 2 reg base ++ doubleword disp
 
 -- an operand with reg in its ModRM byte
 abbrev pub chosen_rm : ℕ → Rm → List ℕ
@@ -38,8 +38,8 @@ chosen_rm reg (rms.Mem m) = chosen_memory reg m.base m.disp
 -- the sign-extended byte where it fits
 abbrev pub chosen_alu_imm : ℕ → Rm → ℕ → List ℕ
 chosen_alu_imm code rm n =
-  if is_signed_byte n then one_byte 0x83 ++ chosen_rm code rm ++ low_byte n
-  else one_byte 0x81 ++ chosen_rm code rm ++ doubleword n
+    if is_signed_byte n then one_byte 0x83 ++ chosen_rm code rm ++ low_byte n
+    else one_byte 0x81 ++ chosen_rm code rm ++ doubleword n
 
 -- the table
 abbrev pub chosen : Ins → List ℕ

@@ -156,10 +156,10 @@ after_mul rm s = do
 abbrev pub divided : Result ℕ Outside → State → Outcome
 divided (Err e) s = Faults faults.Segment
 divided (Ok divisor) s =
-  let dividend = get s.cpu Edx * 2 ^ 32 + get s.cpu Eax in
-  if divisor == 0 then Faults faults.Divide
-  else if nat_le (2 ^ 32) (dividend / divisor) then Faults faults.Divide
-  else GoesOn (record s { cpu = set (set s.cpu Eax (dividend / divisor)) Edx (dividend % divisor) })
+    let dividend = get s.cpu Edx * 2 ^ 32 + get s.cpu Eax in
+    if divisor == 0 then Faults faults.Divide
+    else if nat_le (2 ^ 32) (dividend / divisor) then Faults faults.Divide
+    else GoesOn (record s { cpu = set (set s.cpu Eax (dividend / divisor)) Edx (dividend % divisor) })
 
 unfoldable pub after_div : Rm → State → Outcome
 after_div rm s = divided (load_rm s rm) s

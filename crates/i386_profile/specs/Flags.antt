@@ -143,9 +143,9 @@ neg_flags c a = with_flags c (not (a == 0)) (difference_overflows 0 a) (neg_valu
 -- edx:eax is eax times the operand
 abbrev pub mul : Cpu → ℕ → Cpu
 mul c b =
-  let product = get c Eax * b in
-  let carry = product_carries (get c Eax) b in
-  with_carry_overflow (set (set c Eax (product % 2 ^ 32)) Edx (product / 2 ^ 32)) carry carry
+    let product = get c Eax * b in
+    let carry = product_carries (get c Eax) b in
+    with_carry_overflow (set (set c Eax (product % 2 ^ 32)) Edx (product / 2 ^ 32)) carry carry
 
 -- ---- shifts by a count below 32
 
@@ -170,5 +170,5 @@ shift_overflow Sar a = false
 -- a count of 0 keeps all flags, a count above 1 keeps the overflow
 abbrev pub shift_flags : ShiftOp → Cpu → ℕ → ℕ → Cpu
 shift_flags op c a count =
-  if count == 0 then c
-  else with_flags c (shift_carry op a count) (if count == 1 then shift_overflow op a else c.of) (shift_value op a count)
+    if count == 0 then c
+    else with_flags c (shift_carry op a count) (if count == 1 then shift_overflow op a else c.of) (shift_value op a count)

@@ -31,35 +31,35 @@ None >>= f = None
 
 abbrev pub reg_of : ℕ → Reg
 reg_of n =
-  if n == 0 then Eax else if n == 1 then Ecx else if n == 2 then Edx else if n == 3 then Ebx
-  else if n == 4 then Esp else if n == 5 then Ebp else if n == 6 then Esi else Edi
+    if n == 0 then Eax else if n == 1 then Ecx else if n == 2 then Edx else if n == 3 then Ebx
+    else if n == 4 then Esp else if n == 5 then Ebp else if n == 6 then Esi else Edi
 
 abbrev pub byte_reg_of : ℕ → Option ByteReg
 byte_reg_of n =
-  if n == 0 then Some Al else if n == 1 then Some Cl else if n == 2 then Some Dl else if n == 3 then Some Bl else None
+    if n == 0 then Some Al else if n == 1 then Some Cl else if n == 2 then Some Dl else if n == 3 then Some Bl else None
 
 abbrev pub alu_of : ℕ → Option AluOp
 alu_of n =
-  if n == 0 then Some Add else if n == 1 then Some Or else if n == 4 then Some And
-  else if n == 5 then Some Sub else if n == 6 then Some Xor else if n == 7 then Some Cmp else None
+    if n == 0 then Some Add else if n == 1 then Some Or else if n == 4 then Some And
+    else if n == 5 then Some Sub else if n == 6 then Some Xor else if n == 7 then Some Cmp else None
 
 abbrev pub shift_of : ℕ → Option ShiftOp
 shift_of n = if n == 4 then Some Shl else if n == 5 then Some Shr else if n == 7 then Some Sar else None
 
 abbrev pub unary_of : ℕ → Option UnaryOp
 unary_of n =
-  if n == 2 then Some Not else if n == 3 then Some Neg else if n == 4 then Some Mul else if n == 6 then Some Div else None
+    if n == 2 then Some Not else if n == 3 then Some Neg else if n == 4 then Some Mul else if n == 6 then Some Div else None
 
 -- the conditions 0 to 7, and from 8 on
 abbrev pub low_cond_of : ℕ → Option Cond
 low_cond_of n =
-  if n == 0 then Some O else if n == 1 then Some No else if n == 2 then Some B else if n == 3 then Some Ae
-  else if n == 4 then Some E else if n == 5 then Some Ne else if n == 6 then Some Be else if n == 7 then Some A else None
+    if n == 0 then Some O else if n == 1 then Some No else if n == 2 then Some B else if n == 3 then Some Ae
+    else if n == 4 then Some E else if n == 5 then Some Ne else if n == 6 then Some Be else if n == 7 then Some A else None
 
 abbrev pub high_cond_of : ℕ → Option Cond
 high_cond_of n =
-  if n == 8 then Some S else if n == 9 then Some Ns else if n == 12 then Some L
-  else if n == 13 then Some Ge else if n == 14 then Some Le else if n == 15 then Some G else None
+    if n == 8 then Some S else if n == 9 then Some Ns else if n == 12 then Some L
+    else if n == 13 then Some Ge else if n == 14 then Some Le else if n == 15 then Some G else None
 
 abbrev pub cond_of : ℕ → Option Cond
 cond_of n = if nat_lt n 8 then low_cond_of n else high_cond_of n
@@ -72,7 +72,7 @@ byte_at (b ∷ rest) = Some (b, rest)
 
 abbrev pub doubleword_at : List ℕ → Option (ℕ × List ℕ)
 doubleword_at bytes =
-  if nat_lt (length bytes) 4 then None else Some (from_le_bytes w32 (take 4 bytes), drop 4 bytes)
+    if nat_lt (length bytes) 4 then None else Some (from_le_bytes w32 (take 4 bytes), drop 4 bytes)
 
 abbrev pub signed_byte_at : List ℕ → Option (ℕ × List ℕ)
 signed_byte_at [] = None
@@ -86,17 +86,17 @@ at base disp = rms.Mem (record { base = base; disp = disp })
 -- base and displacement, by mod
 unfoldable pub displaced_at : ℕ → Reg → List ℕ → Option (Rm × List ℕ)
 displaced_at mode base bytes =
-  if mode == 0 then Some (at (Some base) 0, bytes)
-  else if mode == 1 then (signed_byte_at bytes >>= λ d. Some (at (Some base) d.0, d.1))
-  else (doubleword_at bytes >>= λ d. Some (at (Some base) d.0, d.1))
+    if mode == 0 then Some (at (Some base) 0, bytes)
+    else if mode == 1 then (signed_byte_at bytes >>= λ d. Some (at (Some base) d.0, d.1))
+    else (doubleword_at bytes >>= λ d. Some (at (Some base) d.0, d.1))
 
 -- the operand of the fields mod and rm
 unfoldable pub rm_at : ℕ → ℕ → List ℕ → Option (Rm × List ℕ)
 rm_at mode code bytes =
-  if mode == 3 then Some (rms.Reg (reg_of code), bytes)
-  else if code == 4 then (byte_at bytes >>= λ s. if s.0 == 0x24 then displaced_at mode Esp s.1 else None)
-  else if code == 5 then (if mode == 0 then (doubleword_at bytes >>= λ d. Some (at None d.0, d.1)) else displaced_at mode Ebp bytes)
-  else displaced_at mode (reg_of code) bytes
+    if mode == 3 then Some (rms.Reg (reg_of code), bytes)
+    else if code == 4 then (byte_at bytes >>= λ s. if s.0 == 0x24 then displaced_at mode Esp s.1 else None)
+    else if code == 5 then (if mode == 0 then (doubleword_at bytes >>= λ d. Some (at None d.0, d.1)) else displaced_at mode Ebp bytes)
+    else displaced_at mode (reg_of code) bytes
 
 pub record Operands : Type 0 where
   pub reg : ℕ
@@ -156,27 +156,27 @@ alu_at opcode bytes = do
   op ← alu_of (opcode / 8)
   o ← operands_at bytes
   if opcode % 8 == 1 then Some (Alu op o.0.rm (reg_of o.0.reg), o.1)
-    else if opcode % 8 == 3 then Some (alu_from op (reg_of o.0.reg) o.0.rm, o.1)
-    else None
+      else if opcode % 8 == 3 then Some (alu_from op (reg_of o.0.reg) o.0.rm, o.1)
+      else None
 
 -- 40 to 5F: a register in the opcode
 unfoldable pub register_at : ℕ → List ℕ → Read
 register_at opcode bytes =
-  if opcode / 8 == 8 then Some (Inc (reg_of (opcode % 8)), bytes)
-  else if opcode / 8 == 9 then Some (Dec (reg_of (opcode % 8)), bytes)
-  else if opcode / 8 == 10 then Some (Push (reg_of (opcode % 8)), bytes)
-  else if opcode / 8 == 11 then Some (Pop (reg_of (opcode % 8)), bytes)
-  else None
+    if opcode / 8 == 8 then Some (Inc (reg_of (opcode % 8)), bytes)
+    else if opcode / 8 == 9 then Some (Dec (reg_of (opcode % 8)), bytes)
+    else if opcode / 8 == 10 then Some (Push (reg_of (opcode % 8)), bytes)
+    else if opcode / 8 == 11 then Some (Pop (reg_of (opcode % 8)), bytes)
+    else None
 
 -- 68, B8 to BF, E8, E9: a doubleword behind the opcode
 unfoldable pub immediate_at : ℕ → List ℕ → Read
 immediate_at opcode bytes = do
   n ← doubleword_at bytes
   if opcode == 0x68 then Some (PushImm n.0, n.1)
-    else if opcode == 0xE8 then Some (Call n.0, n.1)
-    else if opcode == 0xE9 then Some (Jmp n.0, n.1)
-    else if opcode / 8 == 0x17 then Some (Load (reg_of (opcode % 8)) n.0, n.1)
-    else None
+      else if opcode == 0xE8 then Some (Call n.0, n.1)
+      else if opcode == 0xE9 then Some (Jmp n.0, n.1)
+      else if opcode / 8 == 0x17 then Some (Load (reg_of (opcode % 8)) n.0, n.1)
+      else None
 
 -- 70 to 7F, and 0F 80 to 0F 8F: a condition in the opcode
 unfoldable pub short_jcc_at : ℕ → List ℕ → Read
@@ -202,13 +202,13 @@ alu_imm_at opcode bytes = do
 -- the instruction of 85, 88 to 8B, 8D
 abbrev pub mov_ins : ℕ → ℕ → Rm → Option Ins
 mov_ins opcode reg rm =
-  if opcode == 0x85 then Some (Test rm (reg_of reg))
-  else if opcode == 0x88 then byte_to reg rm
-  else if opcode == 0x89 then Some (MovTo rm (reg_of reg))
-  else if opcode == 0x8A then byte_from reg rm
-  else if opcode == 0x8B then Some (mov_from (reg_of reg) rm)
-  else if opcode == 0x8D then lea (reg_of reg) rm
-  else None
+    if opcode == 0x85 then Some (Test rm (reg_of reg))
+    else if opcode == 0x88 then byte_to reg rm
+    else if opcode == 0x89 then Some (MovTo rm (reg_of reg))
+    else if opcode == 0x8A then byte_from reg rm
+    else if opcode == 0x8B then Some (mov_from (reg_of reg) rm)
+    else if opcode == 0x8D then lea (reg_of reg) rm
+    else None
 
 unfoldable pub mov_at : ℕ → List ℕ → Read
 mov_at opcode bytes = do
@@ -261,49 +261,49 @@ unfoldable pub two_byte_at : List ℕ → Read
 two_byte_at bytes = do
   opcode ← byte_at bytes
   if opcode.0 / 16 == 8 then jcc_at opcode.0 opcode.1
-    else if opcode.0 == 0xAF then imul_at opcode.1
-    else if opcode.0 == 0xB6 then widen_at opcode.1
-    else None
+      else if opcode.0 == 0xAF then imul_at opcode.1
+      else if opcode.0 == 0xB6 then widen_at opcode.1
+      else None
 
 -- 00 to 7F
 unfoldable pub low_at : ℕ → List ℕ → Read
 low_at opcode bytes =
-  if opcode == 0x0F then two_byte_at bytes
-  else if nat_lt opcode 0x40 then alu_at opcode bytes
-  else if nat_lt opcode 0x60 then register_at opcode bytes
-  else if opcode == 0x68 then immediate_at opcode bytes
-  else if nat_lt opcode 0x70 then None
-  else if nat_lt opcode 0x80 then short_jcc_at opcode bytes
-  else None
+    if opcode == 0x0F then two_byte_at bytes
+    else if nat_lt opcode 0x40 then alu_at opcode bytes
+    else if nat_lt opcode 0x60 then register_at opcode bytes
+    else if opcode == 0x68 then immediate_at opcode bytes
+    else if nat_lt opcode 0x70 then None
+    else if nat_lt opcode 0x80 then short_jcc_at opcode bytes
+    else None
 
 -- 80 to BF
 unfoldable pub middle_at : ℕ → List ℕ → Read
 middle_at opcode bytes =
-  if opcode == 0x81 then alu_imm_at opcode bytes
-  else if opcode == 0x83 then alu_imm_at opcode bytes
-  else if nat_lt opcode 0x84 then None
-  else if nat_lt opcode 0x90 then mov_at opcode bytes
-  else if opcode == 0x90 then Some (Nop, bytes)
-  else if nat_lt opcode 0xB8 then None
-  else if nat_lt opcode 0xC0 then immediate_at opcode bytes
-  else None
+    if opcode == 0x81 then alu_imm_at opcode bytes
+    else if opcode == 0x83 then alu_imm_at opcode bytes
+    else if nat_lt opcode 0x84 then None
+    else if nat_lt opcode 0x90 then mov_at opcode bytes
+    else if opcode == 0x90 then Some (Nop, bytes)
+    else if nat_lt opcode 0xB8 then None
+    else if nat_lt opcode 0xC0 then immediate_at opcode bytes
+    else None
 
 -- C0 to FF
 unfoldable pub high_at : ℕ → List ℕ → Read
 high_at opcode bytes =
-  if opcode == 0xC1 then shift_at bytes
-  else if opcode == 0xC3 then Some (Ret, bytes)
-  else if opcode == 0xC7 then put_at bytes
-  else if opcode == 0xCD then gate_at bytes
-  else if opcode == 0xE8 then immediate_at opcode bytes
-  else if opcode == 0xE9 then immediate_at opcode bytes
-  else if opcode == 0xEB then short_jmp_at bytes
-  else if opcode == 0xF7 then unary_at bytes
-  else None
+    if opcode == 0xC1 then shift_at bytes
+    else if opcode == 0xC3 then Some (Ret, bytes)
+    else if opcode == 0xC7 then put_at bytes
+    else if opcode == 0xCD then gate_at bytes
+    else if opcode == 0xE8 then immediate_at opcode bytes
+    else if opcode == 0xE9 then immediate_at opcode bytes
+    else if opcode == 0xEB then short_jmp_at bytes
+    else if opcode == 0xF7 then unary_at bytes
+    else None
 
 unfoldable pub instruction_at : List ℕ → Read
 instruction_at bytes = do
   opcode ← byte_at bytes
   if nat_lt opcode.0 0x80 then low_at opcode.0 opcode.1
-    else if nat_lt opcode.0 0xC0 then middle_at opcode.0 opcode.1
-    else high_at opcode.0 opcode.1
+      else if nat_lt opcode.0 0xC0 then middle_at opcode.0 opcode.1
+      else high_at opcode.0 opcode.1

@@ -42,7 +42,7 @@ based mode reg base = modrm mode reg (reg_code base) ∷ []
 -- The displacement from a base that mod announces: none for 00, which ebp does not have, disp8 for 01, disp32 for 10.
 abbrev pub IsDisplacement : ℕ → Reg → ℕ → List ℕ → Type 0
 IsDisplacement mode base disp bytes =
-      ((mode ≡ 0) × (base ≢ Ebp) × (disp ≡ 0) × (bytes ≡ []))
+    ((mode ≡ 0) × (base ≢ Ebp) × (disp ≡ 0) × (bytes ≡ []))
     ⊎ ((mode ≡ 1) × IsSignedByte disp bytes)
     ⊎ ((mode ≡ 2) × IsDoubleword disp bytes)
 
@@ -76,7 +76,7 @@ Slash opcode reg rm bytes = (o : List ℕ) × SpellsRm reg rm o × (bytes ≡ op
 -- the same with a number behind it
 abbrev pub SlashImmediate : (ℕ → List ℕ → Type 0) → List ℕ → ℕ → Rm → ℕ → List ℕ → Type 0
 SlashImmediate IsNumber opcode reg rm n bytes =
-  (o : List ℕ) × (i : List ℕ) × SpellsRm reg rm o × IsNumber n i × (bytes ≡ opcode ++ o ++ i)
+    (o : List ℕ) × (i : List ℕ) × SpellsRm reg rm o × IsNumber n i × (bytes ≡ opcode ++ o ++ i)
 
 -- `op r, rm` for `op rm, r` of two registers: rm stands in reg, and r in rm
 abbrev pub Exchanged : List ℕ → Rm → Reg → List ℕ → Type 0

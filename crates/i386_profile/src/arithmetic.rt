@@ -140,8 +140,16 @@ impl Cpu {
         if count == 0 {
             return;
         }
-        let overflow = if count == 1 { shift_overflow(op, a) } else { self.of };
-        self.set_flags(shift_carry(op, a, count), overflow, shift_value(op, a, count));
+        let overflow = if count == 1 {
+            shift_overflow(op, a)
+        } else {
+            self.of
+        };
+        self.set_flags(
+            shift_carry(op, a, count),
+            overflow,
+            shift_value(op, a, count),
+        );
     }
 
     pub(crate) fn holds(&self, c: Cond) -> bool

@@ -46,5 +46,4 @@ pub fn decode(bytes: &[u8], at: usize) -> Result<(Ins, usize), Undecoded>
 /// No spelling is a proper front of another, and no bytes spell two instructions.
 pub fn one_spelling()
     ensures { OneSpelling }
-{
-}
+{}

@@ -85,7 +85,13 @@ fn alu<S: Segment>(op: AluOp, rm: Rm, b: u32, cpu: &mut Cpu, seg: &mut S) -> Res
 }
 
 #[tactic(auto, unfolding(crate::specs::Effects::after_alu_from))]
-fn alu_from<S: Segment>(op: AluOp, r: Reg, m: Mem, cpu: &mut Cpu, seg: &mut S) -> Result<(), Outside>
+fn alu_from<S: Segment>(
+    op: AluOp,
+    r: Reg,
+    m: Mem,
+    cpu: &mut Cpu,
+    seg: &mut S,
+) -> Result<(), Outside>
     ensures { Makes (after_alu_from op r m) result (state cpu.old (S.bytes seg.old)) (state cpu.new (S.bytes seg.new)) }
 {
     let b = seg.load32(cpu.address(m))?;
@@ -102,7 +108,13 @@ fn test<S: Segment>(rm: Rm, b: u32, cpu: &mut Cpu, seg: &mut S) -> Result<(), Ou
 }
 
 #[tactic(auto, unfolding(crate::specs::Effects::after_shift))]
-fn shift<S: Segment>(op: ShiftOp, rm: Rm, count: u8, cpu: &mut Cpu, seg: &mut S) -> Result<(), Outside>
+fn shift<S: Segment>(
+    op: ShiftOp,
+    rm: Rm,
+    count: u8,
+    cpu: &mut Cpu,
+    seg: &mut S,
+) -> Result<(), Outside>
     ensures { Makes (after_shift op rm count) result (state cpu.old (S.bytes seg.old)) (state cpu.new (S.bytes seg.new)) }
 {
     let count = u32::from(count % 32);
@@ -259,7 +271,11 @@ fn jump_if(c: Cond, rel: u32, cpu: &mut Cpu) -> Step
     ensures next { result ≡ Step.Next }
     ensures target { cpu.new ≡ (if holds c cpu.old then jumped cpu.old rel else cpu.old) }
 {
-    if cpu.holds(c) { jump(rel, cpu) } else { Step::Next }
+    if cpu.holds(c) {
+        jump(rel, cpu)
+    } else {
+        Step::Next
+    }
 }
 
 fn unary<S: Segment>(op: UnaryOp, rm: Rm, cpu: &mut Cpu, seg: &mut S) -> Step

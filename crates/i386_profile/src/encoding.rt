@@ -204,11 +204,9 @@ pub fn encode(ins: &Ins, out: &mut [u8; 16]) -> usize
 /// Every instruction has a spelling: the one that `encode` writes, of at most 16 bytes.
 pub fn chosen_spells()
     ensures { ChosenSpells }
-{
-}
+{}
 
 /// What `encode` writes, `decode` reads, whatever follows.
 pub fn round_trip()
     ensures { RoundTrip }
-{
-}
+{}

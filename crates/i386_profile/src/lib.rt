@@ -20,3 +20,6 @@ pub use encoding::{chosen_spells, encode, round_trip};
 pub use ins::{AluOp, Cond, Ins, ShiftOp, UnaryOp};
 pub use operands::{ByteReg, Mem, Reg, Rm};
 pub use segment::{Outside, Segment};
+
+#[cfg(test)]
+mod tests;

@@ -140,7 +140,13 @@ fn displaced(mode: u8, base: Reg, bytes: &[u8]) -> Option<(Rm, &[u8])>
         1 => signed_byte(bytes)?,
         _ => doubleword(bytes)?,
     };
-    Some((Rm::Mem(Mem { base: Some(base), disp }), rest))
+    Some((
+        Rm::Mem(Mem {
+            base: Some(base),
+            disp,
+        }),
+        rest,
+    ))
 }
 
 /// The operand of the fields mod and rm.
