@@ -97,9 +97,9 @@ def rows(name, code, operands, undefined=0, shown=None, wide=False):
         left = (left & ~undefined) | (flags & undefined)
         assert ecx == c and (wide or edx == d)
         if wide:
-            print('        (%s, b"%s", %s, b"%s"),' % (numbers([a, c, d]), letters(flags), numbers([eax, edx]), letters(left)))
+            print('        (%s, *b"%s", %s, *b"%s"),' % (numbers([a, c, d]), letters(flags), numbers([eax, edx]), letters(left)))
         else:
-            print('        (%s, %s, b"%s", %s, b"%s"),' % (number(a), number(c), letters(flags), number(eax), letters(left)))
+            print('        (%s, %s, *b"%s", %s, *b"%s"),' % (number(a), number(c), letters(flags), number(eax), letters(left)))
     print("    ]),")
 
 

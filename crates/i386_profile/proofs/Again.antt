@@ -1,11 +1,9 @@
 -- What is spelled is read, whatever follows.
-use Rattle.std.proofs.Common.{◌≡◌, ◌≢◌, ℕ, ◌+◌, ◌-◌, ◌*◌, ◌/◌, ◌%◌, ◌^◌, ◌<◌, ◌≤◌, ◌⊎◌, Bool, true, false, List, [], ◌∷◌, ◌++◌, Option, Some, None, refl, sym, ap, subst, ◌∙◌, append_assoc, arith, inl, inr}
+use Rattle.std.proofs.Common.{◌≡◌, ℕ, ◌+◌, ◌<◌, List, ◌∷◌, ◌++◌, Some, refl, append_assoc, arith, inl, inr}
 use Rattle.i386_profile.specs.declared.operands.Reg.{Reg}
 use Rattle.i386_profile.specs.declared.operands.Reg.TheVariants.{Eax, Ecx, Edx, Ebx, Esp, Ebp, Esi, Edi}
 use Rattle.i386_profile.specs.declared.operands.ByteReg.{ByteReg}
 use Rattle.i386_profile.specs.declared.operands.ByteReg.TheVariants.{Al, Cl, Dl, Bl}
-use Rattle.i386_profile.specs.declared.operands.Mem.{Mem}
-use Rattle.i386_profile.specs.declared.operands.Rm.{Rm}
 use Rattle.i386_profile.specs.declared.operands.Rm.TheVariants as rms
 use Rattle.i386_profile.specs.declared.ins.AluOp.{AluOp}
 use Rattle.i386_profile.specs.declared.ins.AluOp.TheVariants.{Add, Or, And, Sub, Xor, Cmp}
@@ -18,8 +16,8 @@ use Rattle.i386_profile.specs.declared.ins.Cond.TheVariants.{O, No, B, Ae, E, Ne
 use Rattle.i386_profile.specs.declared.ins.Ins.{Ins}
 use Rattle.i386_profile.specs.declared.ins.Ins.TheVariants.{Load, Put, MovTo, MovFrom, ByteTo, ByteFrom, Widen, WidenReg, Lea, Alu, AluFrom, AluImm, Test, Inc, Dec, Push, Pop, PushImm, Shift, Imul, Unary, Jmp, Jcc, Call, Ret, Gate, Nop}
 use Rattle.i386_profile.specs.Codes.{whole_of, reg_code, alu_code, alu_opcode, alu_from_opcode, shift_code, unary_code, cond_code}
-use Rattle.i386_profile.specs.Spelling.{IsDoubleword, IsByte, IsSignedByte, modrm, based, SpellsMemory, SpellsRm, one_byte, two_byte, Immediate, Slash, SlashImmediate, Exchanged, Spells, Begins, NoneBegins}
-use Rattle.i386_profile.specs.Reading.{◌>>=◌, reg_of, byte_reg_of, alu_of, shift_of, unary_of, cond_of, byte_at, doubleword_at, signed_byte_at, Operands, operands_at, Read, alu_from, alu_at, register_at, immediate_at, short_jcc_at, jcc_at, alu_imm_at, mov_ins, mov_at, shift_at, put_at, gate_at, short_jmp_at, unary_at, imul_at, widen_at, two_byte_at, low_at, middle_at, high_at, instruction_at}
+use Rattle.i386_profile.specs.Spelling.{Spells}
+use Rattle.i386_profile.specs.Reading.{◌>>=◌, reg_of, byte_reg_of, alu_of, shift_of, unary_of, doubleword_at, signed_byte_at, operands_at, alu_from, alu_at, register_at, immediate_at, short_jcc_at, jcc_at, alu_imm_at, mov_at, shift_at, put_at, gate_at, short_jmp_at, unary_at, imul_at, widen_at, two_byte_at, low_at, middle_at, high_at, instruction_at}
 use Rattle.i386_profile.proofs.Fields.{byte_again, doubleword_again, signed_again, reg_again, reg_below}
 use Rattle.i386_profile.proofs.ModRm.{operands_again}
 

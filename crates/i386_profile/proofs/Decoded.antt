@@ -1,10 +1,10 @@
 -- Reading and spelling, both ways, for an instruction and its length.
-use Rattle.std.proofs.Common.{◌≡◌, ◌≢◌, ℕ, ◌+◌, ◌-◌, ◌<◌, ◌≤◌, List, ◌++◌, length, take, drop, Option, Some, None, refl, sym, ap, subst, ◌∙◌, arith}
-use Rattle.std.proofs.lemmas.List.{take-append-drop, append_cancel_right, length-append, length-drop, length-take, take_at}
+use Rattle.std.proofs.Common.{◌≡◌, ℕ, ◌+◌, ◌-◌, ◌≤◌, List, ◌++◌, length, take, drop, Some, None, sym, ap, subst, ◌∙◌, arith}
+use Rattle.std.proofs.lemmas.List.{take-append-drop, append_cancel_right, length-append, length-drop, take_at}
 use Rattle.i386_profile.specs.declared.ins.Ins.{Ins}
 use Rattle.i386_profile.specs.Spelling.{Spells, Begins, NoneBegins}
 use Rattle.i386_profile.specs.Laws.{OneSpelling}
-use Rattle.i386_profile.specs.Reading.{Read, instruction_at}
+use Rattle.i386_profile.specs.Reading.{instruction_at}
 use Rattle.i386_profile.proofs.Fields.{IsBytes, some_is}
 use Rattle.i386_profile.proofs.Again.{again}
 use Rattle.i386_profile.proofs.Takes.{takes, found}

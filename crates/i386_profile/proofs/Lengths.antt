@@ -1,26 +1,15 @@
 -- A spelling has 1 to 16 bytes.
-use Rattle.std.proofs.Common.{◌≡◌, ◌≢◌, ℕ, ◌+◌, ◌-◌, ◌*◌, ◌^◌, ◌<◌, ◌≤◌, ◌⊎◌, List, [], ◌∷◌, ◌++◌, length, Option, Some, None, refl, ap, ◌∙◌, arith, inl, inr}
+use Rattle.std.proofs.Common.{◌≡◌, ℕ, ◌≤◌, List, ◌++◌, length, Option, Some, None, refl, ap, ◌∙◌, arith, inl, inr}
 use Rattle.std.proofs.lemmas.List.{length-append}
 use Rattle.std.specs.Int.{w32, to_le_bytes}
 use Rattle.i386_profile.specs.declared.operands.Reg.{Reg}
 use Rattle.i386_profile.specs.declared.operands.Reg.TheVariants.{Eax, Ecx, Edx, Ebx, Esp, Ebp, Esi, Edi}
-use Rattle.i386_profile.specs.declared.operands.ByteReg.{ByteReg}
-use Rattle.i386_profile.specs.declared.operands.ByteReg.TheVariants.{Al, Cl, Dl, Bl}
-use Rattle.i386_profile.specs.declared.operands.Mem.{Mem}
 use Rattle.i386_profile.specs.declared.operands.Rm.{Rm}
 use Rattle.i386_profile.specs.declared.operands.Rm.TheVariants as rms
-use Rattle.i386_profile.specs.declared.ins.AluOp.{AluOp}
-use Rattle.i386_profile.specs.declared.ins.AluOp.TheVariants.{Add, Or, And, Sub, Xor, Cmp}
-use Rattle.i386_profile.specs.declared.ins.ShiftOp.{ShiftOp}
-use Rattle.i386_profile.specs.declared.ins.ShiftOp.TheVariants.{Shl, Shr, Sar}
-use Rattle.i386_profile.specs.declared.ins.UnaryOp.{UnaryOp}
-use Rattle.i386_profile.specs.declared.ins.UnaryOp.TheVariants.{Not, Neg, Mul, Div}
-use Rattle.i386_profile.specs.declared.ins.Cond.{Cond}
-use Rattle.i386_profile.specs.declared.ins.Cond.TheVariants.{O, No, B, Ae, E, Ne, Be, A, S, Ns, L, Ge, Le, G}
 use Rattle.i386_profile.specs.declared.ins.Ins.{Ins}
 use Rattle.i386_profile.specs.declared.ins.Ins.TheVariants.{Load, Put, MovTo, MovFrom, ByteTo, ByteFrom, Widen, WidenReg, Lea, Alu, AluFrom, AluImm, Test, Inc, Dec, Push, Pop, PushImm, Shift, Imul, Unary, Jmp, Jcc, Call, Ret, Gate, Nop}
-use Rattle.i386_profile.specs.Codes.{whole_of, reg_code, alu_code, alu_opcode, alu_from_opcode, shift_code, unary_code, cond_code}
-use Rattle.i386_profile.specs.Spelling.{IsDoubleword, IsByte, IsSignedByte, modrm, based, SpellsMemory, SpellsRm, one_byte, two_byte, Immediate, Slash, SlashImmediate, Exchanged, Spells, Begins, NoneBegins}
+use Rattle.i386_profile.specs.Codes.{whole_of, reg_code}
+use Rattle.i386_profile.specs.Spelling.{IsDoubleword, IsByte, IsSignedByte, based, SpellsMemory, SpellsRm, one_byte, two_byte, Immediate, Slash, SlashImmediate, Exchanged, Spells}
 use Rattle.i386_profile.specs.Spelling.{IsDisplacement}
 
 abbrev pub IsBounded : List ℕ → Type 0

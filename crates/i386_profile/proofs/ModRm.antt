@@ -1,14 +1,13 @@
 -- ModRM, SIB and displacement: what is spelled is read, and what is read is spelled.
-use Rattle.std.proofs.Common.{◌≡◌, ◌≢◌, ℕ, ◌+◌, ◌-◌, ◌*◌, ◌/◌, ◌%◌, ◌^◌, ◌<◌, ◌≤◌, ◌⊎◌, Bool, true, false, eqb, List, [], ◌∷◌, ◌++◌, Option, Some, None, refl, sym, ap, subst, ◌∙◌, append_assoc, arith, inl, inr}
+use Rattle.std.proofs.Common.{◌≡◌, ◌≢◌, ℕ, ◌/◌, ◌%◌, ◌<◌, false, eqb, List, [], ◌∷◌, ◌++◌, Option, Some, None, refl, sym, ap, subst, ◌∙◌, append_assoc, arith, inl, inr}
 use Rattle.std.proofs.lemmas.List.{append-nil}
 use Rattle.std.proofs.lemmas.Bool.{eqb-true, eqb-false}
 use Rattle.i386_profile.specs.declared.operands.Reg.{Reg}
 use Rattle.i386_profile.specs.declared.operands.Reg.TheVariants.{Eax, Ecx, Edx, Ebx, Esp, Ebp, Esi, Edi}
-use Rattle.i386_profile.specs.declared.operands.Mem.{Mem}
 use Rattle.i386_profile.specs.declared.operands.Rm.{Rm}
 use Rattle.i386_profile.specs.declared.operands.Rm.TheVariants as rms
 use Rattle.i386_profile.specs.Codes.{reg_code}
-use Rattle.i386_profile.specs.Spelling.{IsDoubleword, IsByte, IsSignedByte, modrm, based, SpellsMemory, SpellsRm}
+use Rattle.i386_profile.specs.Spelling.{IsByte, modrm, based, SpellsMemory, SpellsRm}
 use Rattle.i386_profile.specs.Reading.{◌>>=◌, reg_of, byte_at, doubleword_at, signed_byte_at, at, displaced_at, rm_at, Operands, operands_at}
 use Rattle.i386_profile.proofs.Fields.{IsBytes, IsBytes-rest, bind_some, branch, some_is, Took, doubleword_again, signed_again, byte_takes, doubleword_takes, signed_takes, reg_again, reg_below, reg_takes, modrm_again, operands_of, operands_front}
 

@@ -1,26 +1,20 @@
 -- What is read is spelled, by groups of opcodes.
-use Rattle.std.proofs.Common.{◌≡◌, ◌≢◌, ℕ, ◌+◌, ◌-◌, ◌*◌, ◌/◌, ◌%◌, ◌^◌, ◌<◌, ◌≤◌, ◌⊎◌, Bool, true, false, cond, eqb, ltb, List, [], ◌∷◌, ◌++◌, Option, Some, None, refl, sym, ap, subst, ◌∙◌, append_assoc, arith, inl, inr}
-use Rattle.std.proofs.lemmas.Bool.{ltb-false, ltb-true, eqb-true, eqb-false}
+use Rattle.std.proofs.Common.{◌≡◌, ℕ, ◌+◌, ◌/◌, ◌%◌, ◌<◌, ◌≤◌, true, eqb, ltb, List, [], ◌∷◌, ◌++◌, Option, Some, None, refl, sym, ap, subst, ◌∙◌, append_assoc, arith, inl, inr}
+use Rattle.std.proofs.lemmas.Bool.{ltb-false, ltb-true, eqb-true}
 use Rattle.i386_profile.specs.declared.operands.Reg.{Reg}
-use Rattle.i386_profile.specs.declared.operands.Reg.TheVariants.{Eax, Ecx, Edx, Ebx, Esp, Ebp, Esi, Edi}
 use Rattle.i386_profile.specs.declared.operands.ByteReg.{ByteReg}
-use Rattle.i386_profile.specs.declared.operands.ByteReg.TheVariants.{Al, Cl, Dl, Bl}
-use Rattle.i386_profile.specs.declared.operands.Mem.{Mem}
 use Rattle.i386_profile.specs.declared.operands.Rm.{Rm}
 use Rattle.i386_profile.specs.declared.operands.Rm.TheVariants as rms
 use Rattle.i386_profile.specs.declared.ins.AluOp.{AluOp}
 use Rattle.i386_profile.specs.declared.ins.AluOp.TheVariants.{Add, Or, And, Sub, Xor, Cmp}
 use Rattle.i386_profile.specs.declared.ins.ShiftOp.{ShiftOp}
-use Rattle.i386_profile.specs.declared.ins.ShiftOp.TheVariants.{Shl, Shr, Sar}
 use Rattle.i386_profile.specs.declared.ins.UnaryOp.{UnaryOp}
-use Rattle.i386_profile.specs.declared.ins.UnaryOp.TheVariants.{Not, Neg, Mul, Div}
 use Rattle.i386_profile.specs.declared.ins.Cond.{Cond}
-use Rattle.i386_profile.specs.declared.ins.Cond.TheVariants.{O, No, B, Ae, E, Ne, Be, A, S, Ns, L, Ge, Le, G}
 use Rattle.i386_profile.specs.declared.ins.Ins.{Ins}
-use Rattle.i386_profile.specs.declared.ins.Ins.TheVariants.{Load, Put, MovTo, MovFrom, ByteTo, ByteFrom, Widen, WidenReg, Lea, Alu, AluFrom, AluImm, Test, Inc, Dec, Push, Pop, PushImm, Shift, Imul, Unary, Jmp, Jcc, Call, Ret, Gate, Nop}
+use Rattle.i386_profile.specs.declared.ins.Ins.TheVariants.{Ret, Nop}
 use Rattle.i386_profile.specs.Codes.{whole_of, reg_code, alu_code, alu_opcode, alu_from_opcode, shift_code, unary_code, cond_code}
-use Rattle.i386_profile.specs.Spelling.{IsDoubleword, IsByte, IsSignedByte, modrm, based, SpellsMemory, SpellsRm, one_byte, two_byte, Immediate, Slash, SlashImmediate, Exchanged, Spells, Begins, NoneBegins}
-use Rattle.i386_profile.specs.Reading.{◌>>=◌, reg_of, byte_reg_of, alu_of, shift_of, unary_of, low_cond_of, high_cond_of, cond_of, byte_at, doubleword_at, signed_byte_at, Operands, operands_at, Read, mov_from, alu_from, lea, byte_to, byte_from, widen, put, alu_at, register_at, immediate_at, short_jcc_at, jcc_at, alu_imm_at, mov_ins, mov_at, shift_at, put_at, gate_at, short_jmp_at, unary_at, imul_at, widen_at, two_byte_at, low_at, middle_at, high_at, instruction_at}
+use Rattle.i386_profile.specs.Spelling.{IsDoubleword, IsByte, IsSignedByte, SpellsRm, one_byte, two_byte, Immediate, Slash, SlashImmediate, Spells}
+use Rattle.i386_profile.specs.Reading.{reg_of, byte_reg_of, alu_of, shift_of, unary_of, low_cond_of, high_cond_of, cond_of, byte_at, doubleword_at, signed_byte_at, Operands, operands_at, Read, mov_from, alu_from, lea, byte_to, byte_from, widen, put, alu_at, register_at, immediate_at, short_jcc_at, jcc_at, alu_imm_at, mov_ins, mov_at, shift_at, put_at, gate_at, short_jmp_at, unary_at, imul_at, widen_at, two_byte_at, low_at, middle_at, high_at, instruction_at}
 use Rattle.i386_profile.proofs.Fields.{IsBytes, IsBytes-rest, bind_some, branch, some_is, Took, byte_takes, doubleword_takes, signed_takes, reg_takes, reg_again}
 use Rattle.i386_profile.proofs.ModRm.{operands_takes}
 

@@ -1,28 +1,16 @@
 -- What is written is spelled.
-use Rattle.std.proofs.Common.{◌≡◌, ◌≢◌, ℕ, ◌+◌, ◌-◌, ◌*◌, ◌/◌, ◌%◌, ◌^◌, ◌<◌, ◌≤◌, ◌⊎◌, Bool, true, false, cond, eqb, List, [], ◌∷◌, ◌++◌, length, Option, Some, None, refl, sym, subst, arith, inl, inr}
-use Rattle.std.specs.Prelude.{◌&&◌, ◌||◌, not}
+use Rattle.std.proofs.Common.{◌≡◌, ◌≢◌, ℕ, ◌%◌, ◌^◌, ◌<◌, ◌≤◌, Bool, true, false, cond, eqb, [], ◌++◌, length, Option, Some, None, refl, sym, subst, arith, inl, inr}
+use Rattle.std.specs.Prelude.{◌&&◌, not}
 use Rattle.std.proofs.lemmas.List.{length-append, take_at, append-nil}
 use Rattle.i386_profile.specs.declared.operands.Reg.{Reg}
-use Rattle.i386_profile.specs.declared.operands.Reg.TheVariants.{Eax, Ecx, Edx, Ebx, Esp, Ebp, Esi, Edi}
-use Rattle.i386_profile.specs.declared.operands.ByteReg.{ByteReg}
-use Rattle.i386_profile.specs.declared.operands.ByteReg.TheVariants.{Al, Cl, Dl, Bl}
-use Rattle.i386_profile.specs.declared.operands.Mem.{Mem}
+use Rattle.i386_profile.specs.declared.operands.Reg.TheVariants.{Ebp}
 use Rattle.i386_profile.specs.declared.operands.Rm.{Rm}
 use Rattle.i386_profile.specs.declared.operands.Rm.TheVariants as rms
-use Rattle.i386_profile.specs.declared.ins.AluOp.{AluOp}
-use Rattle.i386_profile.specs.declared.ins.AluOp.TheVariants.{Add, Or, And, Sub, Xor, Cmp}
-use Rattle.i386_profile.specs.declared.ins.ShiftOp.{ShiftOp}
-use Rattle.i386_profile.specs.declared.ins.ShiftOp.TheVariants.{Shl, Shr, Sar}
-use Rattle.i386_profile.specs.declared.ins.UnaryOp.{UnaryOp}
-use Rattle.i386_profile.specs.declared.ins.UnaryOp.TheVariants.{Not, Neg, Mul, Div}
-use Rattle.i386_profile.specs.declared.ins.Cond.{Cond}
-use Rattle.i386_profile.specs.declared.ins.Cond.TheVariants.{O, No, B, Ae, E, Ne, Be, A, S, Ns, L, Ge, Le, G}
 use Rattle.i386_profile.specs.declared.ins.Ins.{Ins}
 use Rattle.i386_profile.specs.declared.ins.Ins.TheVariants.{Load, Put, MovTo, MovFrom, ByteTo, ByteFrom, Widen, WidenReg, Lea, Alu, AluFrom, AluImm, Test, Inc, Dec, Push, Pop, PushImm, Shift, Imul, Unary, Jmp, Jcc, Call, Ret, Gate, Nop}
-use Rattle.i386_profile.specs.Codes.{whole_of, reg_code, alu_code, alu_opcode, alu_from_opcode, shift_code, unary_code, cond_code}
-use Rattle.i386_profile.specs.Spelling.{IsDoubleword, IsByte, IsSignedByte, modrm, based, SpellsMemory, SpellsRm, one_byte, two_byte, Immediate, Slash, SlashImmediate, Exchanged, Spells, Begins, NoneBegins}
-use Rattle.i386_profile.specs.Spelling.{IsDisplacement}
-use Rattle.i386_profile.specs.Chosen.{doubleword, low_byte, is_signed_byte, chosen_memory, chosen_rm, chosen_alu_imm, chosen}
+use Rattle.i386_profile.specs.Codes.{whole_of, reg_code, alu_code, shift_code, unary_code}
+use Rattle.i386_profile.specs.Spelling.{IsSignedByte, based, SpellsMemory, SpellsRm, Spells}
+use Rattle.i386_profile.specs.Chosen.{doubleword, low_byte, is_signed_byte, chosen_memory, chosen_rm, chosen}
 use Rattle.i386_profile.specs.Laws.{IsRmInRange, IsInRange, ChosenSpells, RoundTrip}
 use Rattle.i386_profile.proofs.Lengths.{bounded}
 

@@ -1,8 +1,7 @@
 -- The spelling that is written: the first of the table, with the shortest displacement.
-use Rattle.std.specs.Prelude.{◌≡◌, ℕ, ◌+◌, ◌*◌, ◌%◌, ◌<◌, ◌≤◌, ◌^◌, ◌&&◌, ◌||◌, not, Bool, List, [], ◌∷◌, ◌++◌, Option, Some, None, if◌then◌else◌, nat_lt, nat_le, ◌==◌}
+use Rattle.std.specs.Prelude.{ℕ, ◌+◌, ◌%◌, ◌&&◌, ◌||◌, not, Bool, List, [], ◌∷◌, ◌++◌, Option, Some, None, if◌then◌else◌, nat_lt, nat_le, ◌==◌}
 use Rattle.std.specs.Int.{w32, to_le_bytes}
 use Rattle.i386_profile.specs.declared.operands.Reg.{Reg}
-use Rattle.i386_profile.specs.declared.operands.Mem.{Mem}
 use Rattle.i386_profile.specs.declared.operands.Rm.{Rm}
 use Rattle.i386_profile.specs.declared.operands.Rm.TheVariants as rms
 use Rattle.i386_profile.specs.declared.ins.Ins.{Ins}

@@ -1,13 +1,13 @@
 -- What each instruction does to registers, flags and the segment's bytes, a case for each (i386 manuals, "Instruction
 -- Set"). A flag that the manuals leave undefined stays as it was. eip is the offset after the instruction on entry.
-use Rattle.std.specs.Prelude.{◌≡◌, ◌≢◌, ℕ, ◌+◌, ◌-◌, ◌*◌, ◌/◌, ◌%◌, ◌^◌, ◌||◌, Bool, false, List, Option, Some, None, Result, Ok, Err, if◌then◌else◌, nat_le, ◌==◌, bit_and}
+use Rattle.std.specs.Prelude.{◌≡◌, ℕ, ◌+◌, ◌-◌, ◌*◌, ◌/◌, ◌%◌, ◌^◌, false, List, Option, Some, None, Result, Ok, Err, if◌then◌else◌, nat_le, ◌==◌, bit_and}
 use Rattle.i386_profile.specs.declared.operands.Reg.{Reg}
-use Rattle.i386_profile.specs.declared.operands.Reg.TheVariants.{Eax, Ecx, Edx, Ebx, Esp, Ebp, Esi, Edi}
+use Rattle.i386_profile.specs.declared.operands.Reg.TheVariants.{Eax, Edx, Esp}
 use Rattle.i386_profile.specs.declared.operands.Mem.{Mem}
 use Rattle.i386_profile.specs.declared.operands.Rm.{Rm}
 use Rattle.i386_profile.specs.declared.operands.Rm.TheVariants as rms
 use Rattle.i386_profile.specs.declared.ins.AluOp.{AluOp}
-use Rattle.i386_profile.specs.declared.ins.AluOp.TheVariants.{Add, Or, And, Sub, Xor, Cmp}
+use Rattle.i386_profile.specs.declared.ins.AluOp.TheVariants.{Cmp}
 use Rattle.i386_profile.specs.declared.ins.ShiftOp.{ShiftOp}
 use Rattle.i386_profile.specs.declared.ins.UnaryOp.{UnaryOp}
 use Rattle.i386_profile.specs.declared.ins.UnaryOp.TheVariants.{Not, Neg, Mul, Div}
@@ -25,10 +25,12 @@ use Rattle.i386_profile.specs.Flags.{get, set, with_flags, with_carry_overflow, 
 
 -- ---- states and outcomes
 
+-- all that an instruction sees and changes
 pub record State : Type 0 where
   pub cpu : Cpu
   pub bytes : List ℕ
 
+-- a state of these parts
 abbrev pub state : Cpu → List ℕ → State
 state cpu bytes = record { cpu = cpu; bytes = bytes }
 
@@ -60,9 +62,11 @@ step_of (Err e) = steps.Fault faults.Segment
 
 -- ---- operands
 
+-- a new value in one register
 abbrev pub with_reg : State → Reg → ℕ → State
 with_reg s r value = record s { cpu = set s.cpu r value }
 
+-- the base's value; without a base there is 0
 abbrev pub base_of : Cpu → Option Reg → ℕ
 base_of c None = 0
 base_of c (Some r) = get c r
@@ -71,31 +75,37 @@ base_of c (Some r) = get c r
 abbrev pub address : Cpu → Mem → ℕ
 address c m = (base_of c m.base + m.disp) % 2 ^ 32
 
+-- an operand's value
 abbrev pub load_rm : State → Rm → Result ℕ Outside
 load_rm s (rms.Reg r) = Ok (get s.cpu r)
 load_rm s (rms.Mem m) = load32 (address s.cpu m) s.bytes
 
+-- an operand with a new value
 abbrev pub store_rm : Rm → ℕ → State → Reached
 store_rm (rms.Reg r) value s = Ok (with_reg s r value)
 store_rm (rms.Mem m) value s = store32 (address s.cpu m) value s.bytes >>= λ bytes. Ok (record s { bytes = bytes })
 
 -- ---- moves
 
+-- mov r, m
 unfoldable pub after_mov_from : Reg → Mem → State → Reached
 after_mov_from r m s = do
   value ← load32 (address s.cpu m) s.bytes
   Ok (with_reg s r value)
 
+-- mov m, b: the low byte of r
 unfoldable pub after_byte_to : Mem → Reg → State → Reached
 after_byte_to m r s = do
   bytes ← store8 (address s.cpu m) (get s.cpu r % 256) s.bytes
   Ok (record s { bytes = bytes })
 
+-- mov b, m: the low byte of r alone
 unfoldable pub after_byte_from : Reg → Mem → State → Reached
 after_byte_from r m s = do
   value ← load8 (address s.cpu m) s.bytes
   Ok (with_reg s r (get s.cpu r / 256 * 256 + value))
 
+-- movzx r, byte m
 unfoldable pub after_widen : Reg → Mem → State → Reached
 after_widen r m s = do
   value ← load8 (address s.cpu m) s.bytes
@@ -108,27 +118,31 @@ abbrev pub alu_store : AluOp → Rm → ℕ → State → Reached
 alu_store Cmp rm value s = Ok s
 alu_store op rm value s = store_rm rm value s
 
+-- op rm, b
 unfoldable pub after_alu : AluOp → Rm → ℕ → State → Reached
 after_alu op rm b s = do
   a ← load_rm s rm
   alu_store op rm (alu_value op a b) (record s { cpu = alu_flags op s.cpu a b })
 
+-- op r, m
 unfoldable pub after_alu_from : AluOp → Reg → Mem → State → Reached
 after_alu_from op r m s = do
   b ← load32 (address s.cpu m) s.bytes
   after_alu op (rms.Reg r) b s
 
+-- test rm, b: the flags of and
 unfoldable pub after_test : Rm → ℕ → State → Reached
 after_test rm b s = do
   a ← load_rm s rm
   Ok (record s { cpu = with_flags s.cpu false false (bit_and a b) })
 
--- the count is taken modulo 32
+-- shl, shr, sar: the count is taken modulo 32
 unfoldable pub after_shift : ShiftOp → Rm → ℕ → State → Reached
 after_shift op rm count s = do
   a ← load_rm s rm
   store_rm rm (shift_value op a (count % 32)) (record s { cpu = shift_flags op s.cpu a (count % 32) })
 
+-- imul r, rm: zero and sign are kept
 unfoldable pub after_imul : Reg → Rm → State → Reached
 after_imul r rm s = do
   b ← load_rm s rm
@@ -136,23 +150,26 @@ after_imul r rm s = do
   let overflow = product_overflows a b
   Ok (record s { cpu = set (with_carry_overflow s.cpu overflow overflow) r (product_of a b) })
 
+-- not rm keeps the flags
 unfoldable pub after_not : Rm → State → Reached
 after_not rm s = do
   a ← load_rm s rm
   store_rm rm (not_value a) s
 
+-- neg rm
 unfoldable pub after_neg : Rm → State → Reached
 after_neg rm s = do
   a ← load_rm s rm
   store_rm rm (neg_value a) (record s { cpu = neg_flags s.cpu a })
 
+-- mul rm
 unfoldable pub after_mul : Rm → State → Reached
 after_mul rm s = do
   b ← load_rm s rm
   Ok (record s { cpu = mul s.cpu b })
 
--- edx:eax by the divisor: the quotient in eax, the rest in edx. The divisor is loaded first. Divide comes where it is
--- 0, or where the quotient passes 32 bits.
+-- edx:eax by the divisor, the quotient in eax and the rest in edx. Divide comes exactly where the divisor, once it is
+-- loaded, is 0, or the quotient passes 32 bits. The flags are kept.
 abbrev pub divided : Result ℕ Outside → State → Outcome
 divided (Err e) s = Faults faults.Segment
 divided (Ok divisor) s =
@@ -161,29 +178,32 @@ divided (Ok divisor) s =
     else if nat_le (2 ^ 32) (dividend / divisor) then Faults faults.Divide
     else GoesOn (record s { cpu = set (set s.cpu Eax (dividend / divisor)) Edx (dividend % divisor) })
 
+-- div rm
 unfoldable pub after_div : Rm → State → Outcome
 after_div rm s = divided (load_rm s rm) s
 
 -- ---- stack and jumps
 
--- a doubleword below the stack's top
+-- push: a doubleword below the stack's top
 unfoldable pub after_push : ℕ → State → Reached
 after_push value s = do
   let top = (get s.cpu Esp + 2 ^ 32 - 4) % 2 ^ 32
   bytes ← store32 top value s.bytes
   Ok (state (set s.cpu Esp top) bytes)
 
--- the register is set last, so that esp takes the value too
+-- pop r: the register is set last, so that esp takes the value too
 unfoldable pub after_pop : Reg → State → Reached
 after_pop r s = do
   value ← load32 (get s.cpu Esp) s.bytes
   Ok (record s { cpu = set (popped s.cpu) r value })
 
+-- call: eip is pushed, then moved
 unfoldable pub after_call : ℕ → State → Reached
 after_call rel s = do
   pushed ← after_push s.cpu.eip s
   Ok (record pushed { cpu = jumped pushed.cpu rel })
 
+-- ret: eip is popped
 unfoldable pub after_ret : State → Reached
 after_ret s = do
   value ← load32 (get s.cpu Esp) s.bytes
@@ -192,12 +212,14 @@ after_ret s = do
 
 -- ---- the table
 
+-- not, neg, mul, div
 abbrev pub does_unary : UnaryOp → Rm → State → Outcome
 does_unary Not rm s = ends (after_not rm s)
 does_unary Neg rm s = ends (after_neg rm s)
 does_unary Mul rm s = ends (after_mul rm s)
 does_unary Div rm s = after_div rm s
 
+-- what an instruction leads to
 abbrev pub does : Ins → State → Outcome
 does (Load r n) s = GoesOn (with_reg s r n)
 does (Put m n) s = ends (store_rm (rms.Mem m) n s)
@@ -229,6 +251,7 @@ does Nop s = GoesOn s
 
 -- ---- what a call answers and leaves
 
+-- an outcome as a step, and the state that is left
 abbrev pub Answers : Outcome → Step → State → State → Type 0
 Answers (GoesOn made) step old new = (step ≡ steps.Next) × (new ≡ made)
 Answers (CallsGate n made) step old new = (step ≡ steps.Gate n) × (new ≡ made)

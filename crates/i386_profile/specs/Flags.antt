@@ -1,9 +1,9 @@
 -- Registers, results and flags, over whole numbers: an operand of 32 bits is a number below 2^32 (i386 manuals,
 -- "Flags Register" and "Status Flags Summary").
-use Rattle.std.specs.Prelude.{◌≡◌, ℕ, ◌+◌, ◌-◌, ◌*◌, ◌/◌, ◌%◌, ◌^◌, ◌&&◌, ◌||◌, not, Bool, true, false, if◌then◌else◌, nat_lt, nat_le, ◌==◌, slice_index, slice_set, bit_and, bit_or, bit_xor, ℤ, pos, negsuc, ◌+ℤ◌, ◌-ℤ◌, ◌*ℤ◌}
+use Rattle.std.specs.Prelude.{ℕ, ◌+◌, ◌-◌, ◌*◌, ◌/◌, ◌%◌, ◌^◌, ◌&&◌, ◌||◌, not, Bool, false, if◌then◌else◌, nat_lt, nat_le, ◌==◌, slice_index, slice_set, bit_and, bit_or, bit_xor, ℤ, pos, negsuc, ◌+ℤ◌, ◌-ℤ◌, ◌*ℤ◌}
 use Rattle.std.specs.Int.{w32, cast_signed, cast_unsigned, int_shr, bit_at}
 use Rattle.i386_profile.specs.declared.operands.Reg.{Reg}
-use Rattle.i386_profile.specs.declared.operands.Reg.TheVariants.{Eax, Ecx, Edx, Ebx, Esp, Ebp, Esi, Edi}
+use Rattle.i386_profile.specs.declared.operands.Reg.TheVariants.{Eax, Edx, Esp}
 use Rattle.i386_profile.specs.declared.ins.AluOp.{AluOp}
 use Rattle.i386_profile.specs.declared.ins.AluOp.TheVariants.{Add, Or, And, Sub, Xor, Cmp}
 use Rattle.i386_profile.specs.declared.ins.ShiftOp.{ShiftOp}
@@ -44,35 +44,45 @@ fits_signed (negsuc n) = nat_lt n (2 ^ 31)
 abbrev pub is_negative : ℕ → Bool
 is_negative n = nat_le (2 ^ 31) n
 
+-- exclusive or
 abbrev pub differ : Bool → Bool → Bool
 differ a b = (a && not b) || (not a && b)
 
--- ---- sums, differences, products: the result, the carry of the unsigned one, the overflow of the signed one
+-- ---- sums, differences, products
 
+-- modulo 2^32
 abbrev pub sum_of : ℕ → ℕ → ℕ
 sum_of a b = (a + b) % 2 ^ 32
 
+-- the unsigned sum passes 32 bits
 abbrev pub sum_carries : ℕ → ℕ → Bool
 sum_carries a b = nat_le (2 ^ 32) (a + b)
 
+-- the signed sum does not fit
 abbrev pub sum_overflows : ℕ → ℕ → Bool
 sum_overflows a b = not (fits_signed (signed a +ℤ signed b))
 
+-- modulo 2^32
 abbrev pub difference_of : ℕ → ℕ → ℕ
 difference_of a b = (a + 2 ^ 32 - b) % 2 ^ 32
 
+-- the unsigned difference is below 0
 abbrev pub difference_borrows : ℕ → ℕ → Bool
 difference_borrows a b = nat_lt a b
 
+-- the signed difference does not fit
 abbrev pub difference_overflows : ℕ → ℕ → Bool
 difference_overflows a b = not (fits_signed (signed a -ℤ signed b))
 
+-- the low 32 bits, which are those of the signed product too
 abbrev pub product_of : ℕ → ℕ → ℕ
 product_of a b = (a * b) % 2 ^ 32
 
+-- the unsigned product passes 32 bits
 abbrev pub product_carries : ℕ → ℕ → Bool
 product_carries a b = nat_le (2 ^ 32) (a * b)
 
+-- the signed product does not fit
 abbrev pub product_overflows : ℕ → ℕ → Bool
 product_overflows a b = not (fits_signed (signed a *ℤ signed b))
 
@@ -86,7 +96,7 @@ with_flags c carry overflow value = record c { cf = carry; zf = value == 0; sf =
 abbrev pub with_carry_overflow : Cpu → Bool → Bool → Cpu
 with_carry_overflow c carry overflow = record c { cf = carry; of = overflow }
 
--- a condition
+-- a condition, by the flags
 abbrev pub holds : Cond → Cpu → Bool
 holds O c = c.of
 holds No c = not c.of
@@ -105,6 +115,7 @@ holds G c = not (c.zf || differ c.sf c.of)
 
 -- ---- operations of two operands
 
+-- the result; cmp subtracts
 abbrev pub alu_value : AluOp → ℕ → ℕ → ℕ
 alu_value Add a b = sum_of a b
 alu_value Or a b = bit_or a b
@@ -113,6 +124,7 @@ alu_value Sub a b = difference_of a b
 alu_value Xor a b = bit_xor a b
 alu_value Cmp a b = difference_of a b
 
+-- add and sub set all four flags by their arithmetic; or, and, xor clear carry and overflow
 abbrev pub alu_flags : AluOp → Cpu → ℕ → ℕ → Cpu
 alu_flags Add c a b = with_flags c (sum_carries a b) (sum_overflows a b) (sum_of a b)
 alu_flags Or c a b = with_flags c false false (bit_or a b)
@@ -123,13 +135,15 @@ alu_flags Cmp c a b = with_flags c (difference_borrows a b) (difference_overflow
 
 -- ---- operations of one operand
 
--- inc and dec add and subtract 1, and keep the carry
+-- one is added, and the carry kept
 abbrev pub inc : Cpu → Reg → Cpu
 inc c r = let a = get c r in set (with_flags c c.cf (sum_overflows a 1) (sum_of a 1)) r (sum_of a 1)
 
+-- the same downward
 abbrev pub dec : Cpu → Reg → Cpu
 dec c r = let a = get c r in set (with_flags c c.cf (difference_overflows a 1) (difference_of a 1)) r (difference_of a 1)
 
+-- each bit is turned
 abbrev pub not_value : ℕ → ℕ
 not_value a = 2 ^ 32 - 1 - a
 
@@ -137,10 +151,11 @@ not_value a = 2 ^ 32 - 1 - a
 abbrev pub neg_value : ℕ → ℕ
 neg_value a = difference_of 0 a
 
+-- the carry is clear exactly for 0
 abbrev pub neg_flags : Cpu → ℕ → Cpu
 neg_flags c a = with_flags c (not (a == 0)) (difference_overflows 0 a) (neg_value a)
 
--- edx:eax is eax times the operand
+-- edx:eax is eax times the operand; zero and sign are kept
 abbrev pub mul : Cpu → ℕ → Cpu
 mul c b =
     let product = get c Eax * b in

@@ -1,10 +1,9 @@
 -- What holds of spellings as a whole.
 use Rattle.std.specs.Prelude.{◌≡◌, ℕ, ◌<◌, ◌≤◌, ◌^◌, length, List, ◌++◌}
-use Rattle.i386_profile.specs.declared.operands.Mem.{Mem}
 use Rattle.i386_profile.specs.declared.operands.Rm.{Rm}
 use Rattle.i386_profile.specs.declared.operands.Rm.TheVariants as rms
 use Rattle.i386_profile.specs.declared.ins.Ins.{Ins}
-use Rattle.i386_profile.specs.declared.ins.Ins.TheVariants.{Load, Put, MovTo, MovFrom, ByteTo, ByteFrom, Widen, WidenReg, Lea, Alu, AluFrom, AluImm, Test, Inc, Dec, Push, Pop, PushImm, Shift, Imul, Unary, Jmp, Jcc, Call, Ret, Gate, Nop}
+use Rattle.i386_profile.specs.declared.ins.Ins.TheVariants.{Load, Put, MovTo, MovFrom, ByteTo, ByteFrom, Widen, Lea, Alu, AluFrom, AluImm, Test, PushImm, Shift, Imul, Unary, Jmp, Jcc, Call, Gate}
 use Rattle.i386_profile.specs.Spelling.{Spells, Begins}
 use Rattle.i386_profile.specs.Chosen.{chosen}
 

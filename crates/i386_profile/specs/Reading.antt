@@ -1,12 +1,11 @@
 -- Reading an instruction from the front of some bytes: what it is, and the bytes after it. This is the order in which
 -- the decoder looks at bytes; that what it reads is what is spelled there is proved, and no public clause cites it.
-use Rattle.std.specs.Prelude.{◌≡◌, ℕ, ◌+◌, ◌-◌, ◌*◌, ◌/◌, ◌%◌, ◌<◌, ◌^◌, List, [], ◌∷◌, length, take, drop, Option, Some, None, if◌then◌else◌, nat_lt, ◌==◌}
+use Rattle.std.specs.Prelude.{ℕ, ◌/◌, ◌%◌, List, [], ◌∷◌, length, take, drop, Option, Some, None, if◌then◌else◌, nat_lt, ◌==◌}
 use Rattle.std.specs.Int.{w32, from_le_bytes}
 use Rattle.i386_profile.specs.declared.operands.Reg.{Reg}
 use Rattle.i386_profile.specs.declared.operands.Reg.TheVariants.{Eax, Ecx, Edx, Ebx, Esp, Ebp, Esi, Edi}
 use Rattle.i386_profile.specs.declared.operands.ByteReg.{ByteReg}
 use Rattle.i386_profile.specs.declared.operands.ByteReg.TheVariants.{Al, Cl, Dl, Bl}
-use Rattle.i386_profile.specs.declared.operands.Mem.{Mem}
 use Rattle.i386_profile.specs.declared.operands.Rm.{Rm}
 use Rattle.i386_profile.specs.declared.operands.Rm.TheVariants as rms
 use Rattle.i386_profile.specs.declared.ins.AluOp.{AluOp}
@@ -22,6 +21,7 @@ use Rattle.i386_profile.specs.declared.ins.Ins.TheVariants.{Load, Put, MovTo, Mo
 use Rattle.i386_profile.specs.Codes.{reg_code}
 use Rattle.i386_profile.specs.Spelling.{sign_extended}
 
+-- one reader after another
 infixl 10 ◌>>=◌
 abbrev pub ◌>>=◌ : {A B : Type 0} → Option A → (A → Option B) → Option B
 (Some x) >>= f = f x
@@ -29,15 +29,18 @@ None >>= f = None
 
 -- ---- numbers of registers, operations and conditions
 
+-- the register of a number of three bits
 abbrev pub reg_of : ℕ → Reg
 reg_of n =
     if n == 0 then Eax else if n == 1 then Ecx else if n == 2 then Edx else if n == 3 then Ebx
     else if n == 4 then Esp else if n == 5 then Ebp else if n == 6 then Esi else Edi
 
+-- the byte register of one
 abbrev pub byte_reg_of : ℕ → Option ByteReg
 byte_reg_of n =
     if n == 0 then Some Al else if n == 1 then Some Cl else if n == 2 then Some Dl else if n == 3 then Some Bl else None
 
+-- as alu_code, shift_code, unary_code and cond_code number them
 abbrev pub alu_of : ℕ → Option AluOp
 alu_of n =
     if n == 0 then Some Add else if n == 1 then Some Or else if n == 4 then Some And
@@ -66,20 +69,24 @@ cond_of n = if nat_lt n 8 then low_cond_of n else high_cond_of n
 
 -- ---- numbers
 
+-- one byte
 abbrev pub byte_at : List ℕ → Option (ℕ × List ℕ)
 byte_at [] = None
 byte_at (b ∷ rest) = Some (b, rest)
 
+-- four bytes, little-endian
 abbrev pub doubleword_at : List ℕ → Option (ℕ × List ℕ)
 doubleword_at bytes =
     if nat_lt (length bytes) 4 then None else Some (from_le_bytes w32 (take 4 bytes), drop 4 bytes)
 
+-- one byte, sign-extended
 abbrev pub signed_byte_at : List ℕ → Option (ℕ × List ℕ)
 signed_byte_at [] = None
 signed_byte_at (b ∷ rest) = Some (sign_extended b, rest)
 
 -- ---- operands
 
+-- a place in memory as an operand
 abbrev pub at : Option Reg → ℕ → Rm
 at base disp = rms.Mem (record { base = base; disp = disp })
 
@@ -98,6 +105,7 @@ rm_at mode code bytes =
     else if code == 5 then (if mode == 0 then (doubleword_at bytes >>= λ d. Some (at None d.0, d.1)) else displaced_at mode Ebp bytes)
     else displaced_at mode (reg_of code) bytes
 
+-- the number in reg, and the operand of mod and rm
 pub record Operands : Type 0 where
   pub reg : ℕ
   pub rm : Rm
@@ -140,7 +148,7 @@ abbrev pub byte_from : ℕ → Rm → Option Ins
 byte_from reg (rms.Reg s) = None
 byte_from reg (rms.Mem m) = byte_reg_of reg >>= λ b. Some (ByteFrom b m)
 
--- 0F B6
+-- B6 behind 0F, and its operand
 abbrev pub widen : Reg → Rm → Option Ins
 widen r (rms.Reg s) = byte_reg_of (reg_code s) >>= λ b. Some (WidenReg r b)
 widen r (rms.Mem m) = Some (Widen r m)
@@ -178,13 +186,14 @@ immediate_at opcode bytes = do
       else if opcode / 8 == 0x17 then Some (Load (reg_of (opcode % 8)) n.0, n.1)
       else None
 
--- 70 to 7F, and 0F 80 to 0F 8F: a condition in the opcode
+-- 70 to 7F: a condition in the opcode
 unfoldable pub short_jcc_at : ℕ → List ℕ → Read
 short_jcc_at opcode bytes = do
   c ← cond_of (opcode % 16)
   rel ← signed_byte_at bytes
   Some (Jcc c rel.0, rel.1)
 
+-- 80 to 8F behind 0F: the same
 unfoldable pub jcc_at : ℕ → List ℕ → Read
 jcc_at opcode bytes = do
   c ← cond_of (opcode % 16)
@@ -210,6 +219,7 @@ mov_ins opcode reg rm =
     else if opcode == 0x8D then lea (reg_of reg) rm
     else None
 
+-- 84 to 8F
 unfoldable pub mov_at : ℕ → List ℕ → Read
 mov_at opcode bytes = do
   o ← operands_at bytes
@@ -245,11 +255,11 @@ unary_at bytes = do
   op ← unary_of o.0.reg
   Some (Unary op o.0.rm, o.1)
 
--- 0F AF
+-- AF behind 0F
 unfoldable pub imul_at : List ℕ → Read
 imul_at bytes = operands_at bytes >>= λ o. Some (Imul (reg_of o.0.reg) o.0.rm, o.1)
 
--- 0F B6
+-- B6 behind 0F
 unfoldable pub widen_at : List ℕ → Read
 widen_at bytes = do
   o ← operands_at bytes
@@ -301,6 +311,7 @@ high_at opcode bytes =
     else if opcode == 0xF7 then unary_at bytes
     else None
 
+-- the instruction at the front
 unfoldable pub instruction_at : List ℕ → Read
 instruction_at bytes = do
   opcode ← byte_at bytes

@@ -3,6 +3,7 @@ use Rattle.std.specs.Prelude.{◌≡◌, ℕ, ◌+◌, List, ◌++◌, length, t
 use Rattle.std.specs.Int.{w32, from_le_bytes, to_le_bytes}
 use Rattle.i386_profile.specs.declared.segment.Outside.{Outside}
 
+-- the one value of its type
 abbrev pub outside : Outside
 outside = record {}
 

@@ -2,8 +2,7 @@
 use Rattle.std.specs.Prelude.{◌≡◌, ◌≢◌, ℕ, ◌+◌, ◌*◌, ◌<◌, ◌≤◌, ◌^◌, ◌⊎◌, length, take, List, [], ◌∷◌, ◌++◌, Option, Some, None, if◌then◌else◌, nat_lt}
 use Rattle.std.specs.Int.{w32, to_le_bytes}
 use Rattle.i386_profile.specs.declared.operands.Reg.{Reg}
-use Rattle.i386_profile.specs.declared.operands.Reg.TheVariants.{Eax, Ecx, Edx, Ebx, Esp, Ebp, Esi, Edi}
-use Rattle.i386_profile.specs.declared.operands.Mem.{Mem}
+use Rattle.i386_profile.specs.declared.operands.Reg.TheVariants.{Esp, Ebp}
 use Rattle.i386_profile.specs.declared.operands.Rm.{Rm}
 use Rattle.i386_profile.specs.declared.operands.Rm.TheVariants as rms
 use Rattle.i386_profile.specs.declared.ins.Ins.{Ins}
@@ -58,10 +57,11 @@ SpellsRm reg (rms.Mem m) bytes = SpellsMemory reg m.base m.disp bytes
 
 -- ---- an opcode and what follows it
 
+-- an opcode of one byte
 abbrev pub one_byte : ℕ → List ℕ
 one_byte opcode = opcode ∷ []
 
--- behind the escape 0F
+-- an opcode of two bytes, the first the escape 0F
 abbrev pub two_byte : ℕ → List ℕ
 two_byte opcode = 0x0F ∷ opcode ∷ []
 

@@ -26,7 +26,8 @@ fn load<S: Segment>(rm: Rm, cpu: &Cpu, seg: &S) -> Result<u32, Outside>
 
 /// The operand gets a new value.
 fn store<S: Segment>(rm: Rm, value: u32, cpu: &mut Cpu, seg: &mut S) -> Result<(), Outside>
-    ensures { Makes (store_rm rm value) result (state cpu.old (S.bytes seg.old)) (state cpu.new (S.bytes seg.new)) }
+    ensures { Makes (store_rm rm value) result
+        (state cpu.old (S.bytes seg.old)) (state cpu.new (S.bytes seg.new)) }
 {
     match rm {
         Rm::Reg(r) => {
@@ -37,25 +38,31 @@ fn store<S: Segment>(rm: Rm, value: u32, cpu: &mut Cpu, seg: &mut S) -> Result<(
     }
 }
 
+/// `mov r, m`
 #[tactic(auto, unfolding(crate::specs::Effects::after_mov_from))]
 fn mov_from<S: Segment>(r: Reg, m: Mem, cpu: &mut Cpu, seg: &mut S) -> Result<(), Outside>
-    ensures { Makes (after_mov_from r m) result (state cpu.old (S.bytes seg.old)) (state cpu.new (S.bytes seg.new)) }
+    ensures { Makes (after_mov_from r m) result
+        (state cpu.old (S.bytes seg.old)) (state cpu.new (S.bytes seg.new)) }
 {
     let value = seg.load32(cpu.address(m))?;
     cpu.set(r, value);
     Ok(())
 }
 
+/// `mov m, b`, where b is the low byte of r
 #[tactic(auto, unfolding(crate::specs::Effects::after_byte_to))]
 fn byte_to<S: Segment>(m: Mem, r: Reg, cpu: &mut Cpu, seg: &mut S) -> Result<(), Outside>
-    ensures { Makes (after_byte_to m r) result (state cpu.old (S.bytes seg.old)) (state cpu.new (S.bytes seg.new)) }
+    ensures { Makes (after_byte_to m r) result
+        (state cpu.old (S.bytes seg.old)) (state cpu.new (S.bytes seg.new)) }
 {
     seg.store8(cpu.address(m), (cpu.get(r) % 256) as u8)
 }
 
+/// `mov b, m`, where b is the low byte of r
 #[tactic(auto, unfolding(crate::specs::Effects::after_byte_from))]
 fn byte_from<S: Segment>(r: Reg, m: Mem, cpu: &mut Cpu, seg: &mut S) -> Result<(), Outside>
-    ensures { Makes (after_byte_from r m) result (state cpu.old (S.bytes seg.old)) (state cpu.new (S.bytes seg.new)) }
+    ensures { Makes (after_byte_from r m) result
+        (state cpu.old (S.bytes seg.old)) (state cpu.new (S.bytes seg.new)) }
 {
     let value = seg.load8(cpu.address(m))?;
     let kept = cpu.get(r) / 256 * 256;
@@ -63,18 +70,22 @@ fn byte_from<S: Segment>(r: Reg, m: Mem, cpu: &mut Cpu, seg: &mut S) -> Result<(
     Ok(())
 }
 
+/// `movzx r, byte m`
 #[tactic(auto, unfolding(crate::specs::Effects::after_widen))]
 fn widen<S: Segment>(r: Reg, m: Mem, cpu: &mut Cpu, seg: &mut S) -> Result<(), Outside>
-    ensures { Makes (after_widen r m) result (state cpu.old (S.bytes seg.old)) (state cpu.new (S.bytes seg.new)) }
+    ensures { Makes (after_widen r m) result
+        (state cpu.old (S.bytes seg.old)) (state cpu.new (S.bytes seg.new)) }
 {
     let value = seg.load8(cpu.address(m))?;
     cpu.set(r, u32::from(value));
     Ok(())
 }
 
+/// `op rm, b`
 #[tactic(auto, unfolding(crate::specs::Effects::after_alu))]
 fn alu<S: Segment>(op: AluOp, rm: Rm, b: u32, cpu: &mut Cpu, seg: &mut S) -> Result<(), Outside>
-    ensures { Makes (after_alu op rm b) result (state cpu.old (S.bytes seg.old)) (state cpu.new (S.bytes seg.new)) }
+    ensures { Makes (after_alu op rm b) result
+        (state cpu.old (S.bytes seg.old)) (state cpu.new (S.bytes seg.new)) }
 {
     let a = load(rm, cpu, seg)?;
     if op != AluOp::Cmp {
@@ -84,6 +95,7 @@ fn alu<S: Segment>(op: AluOp, rm: Rm, b: u32, cpu: &mut Cpu, seg: &mut S) -> Res
     Ok(())
 }
 
+/// `op r, m`
 #[tactic(auto, unfolding(crate::specs::Effects::after_alu_from))]
 fn alu_from<S: Segment>(
     op: AluOp,
@@ -92,21 +104,25 @@ fn alu_from<S: Segment>(
     cpu: &mut Cpu,
     seg: &mut S,
 ) -> Result<(), Outside>
-    ensures { Makes (after_alu_from op r m) result (state cpu.old (S.bytes seg.old)) (state cpu.new (S.bytes seg.new)) }
+    ensures { Makes (after_alu_from op r m) result
+        (state cpu.old (S.bytes seg.old)) (state cpu.new (S.bytes seg.new)) }
 {
     let b = seg.load32(cpu.address(m))?;
     alu(op, Rm::Reg(r), b, cpu, seg)
 }
 
+/// `test rm, b`
 #[tactic(auto, unfolding(crate::specs::Effects::after_test))]
 fn test<S: Segment>(rm: Rm, b: u32, cpu: &mut Cpu, seg: &mut S) -> Result<(), Outside>
-    ensures { Makes (after_test rm b) result (state cpu.old (S.bytes seg.old)) (state cpu.new (S.bytes seg.new)) }
+    ensures { Makes (after_test rm b) result
+        (state cpu.old (S.bytes seg.old)) (state cpu.new (S.bytes seg.new)) }
 {
     let a = load(rm, cpu, seg)?;
     cpu.set_flags(false, false, a & b);
     Ok(())
 }
 
+/// `shl`, `shr`, `sar`
 #[tactic(auto, unfolding(crate::specs::Effects::after_shift))]
 fn shift<S: Segment>(
     op: ShiftOp,
@@ -115,7 +131,8 @@ fn shift<S: Segment>(
     cpu: &mut Cpu,
     seg: &mut S,
 ) -> Result<(), Outside>
-    ensures { Makes (after_shift op rm count) result (state cpu.old (S.bytes seg.old)) (state cpu.new (S.bytes seg.new)) }
+    ensures { Makes (after_shift op rm count) result
+        (state cpu.old (S.bytes seg.old)) (state cpu.new (S.bytes seg.new)) }
 {
     let count = u32::from(count % 32);
     let a = load(rm, cpu, seg)?;
@@ -124,9 +141,11 @@ fn shift<S: Segment>(
     Ok(())
 }
 
+/// `imul r, rm`
 #[tactic(auto, unfolding(crate::specs::Effects::after_imul))]
 fn imul<S: Segment>(r: Reg, rm: Rm, cpu: &mut Cpu, seg: &mut S) -> Result<(), Outside>
-    ensures { Makes (after_imul r rm) result (state cpu.old (S.bytes seg.old)) (state cpu.new (S.bytes seg.new)) }
+    ensures { Makes (after_imul r rm) result
+        (state cpu.old (S.bytes seg.old)) (state cpu.new (S.bytes seg.new)) }
 {
     let b = load(rm, cpu, seg)?;
     let a = cpu.get(r);
@@ -136,17 +155,21 @@ fn imul<S: Segment>(r: Reg, rm: Rm, cpu: &mut Cpu, seg: &mut S) -> Result<(), Ou
     Ok(())
 }
 
+/// `not rm`
 #[tactic(auto, unfolding(crate::specs::Effects::after_not))]
 fn not<S: Segment>(rm: Rm, cpu: &mut Cpu, seg: &mut S) -> Result<(), Outside>
-    ensures { Makes (after_not rm) result (state cpu.old (S.bytes seg.old)) (state cpu.new (S.bytes seg.new)) }
+    ensures { Makes (after_not rm) result
+        (state cpu.old (S.bytes seg.old)) (state cpu.new (S.bytes seg.new)) }
 {
     let a = load(rm, cpu, seg)?;
     store(rm, 0xFFFF_FFFF - a, cpu, seg)
 }
 
+/// `neg rm`
 #[tactic(auto, unfolding(crate::specs::Effects::after_neg))]
 fn neg<S: Segment>(rm: Rm, cpu: &mut Cpu, seg: &mut S) -> Result<(), Outside>
-    ensures { Makes (after_neg rm) result (state cpu.old (S.bytes seg.old)) (state cpu.new (S.bytes seg.new)) }
+    ensures { Makes (after_neg rm) result
+        (state cpu.old (S.bytes seg.old)) (state cpu.new (S.bytes seg.new)) }
 {
     let a = load(rm, cpu, seg)?;
     store(rm, 0u32.wrapping_sub(a), cpu, seg)?;
@@ -154,18 +177,22 @@ fn neg<S: Segment>(rm: Rm, cpu: &mut Cpu, seg: &mut S) -> Result<(), Outside>
     Ok(())
 }
 
+/// `mul rm`
 #[tactic(auto, unfolding(crate::specs::Effects::after_mul))]
 fn mul<S: Segment>(rm: Rm, cpu: &mut Cpu, seg: &mut S) -> Result<(), Outside>
-    ensures { Makes (after_mul rm) result (state cpu.old (S.bytes seg.old)) (state cpu.new (S.bytes seg.new)) }
+    ensures { Makes (after_mul rm) result
+        (state cpu.old (S.bytes seg.old)) (state cpu.new (S.bytes seg.new)) }
 {
     let b = load(rm, cpu, seg)?;
     cpu.multiply(b);
     Ok(())
 }
 
+/// `div rm`
 #[tactic(auto, unfolding(crate::specs::Effects::after_div))]
 fn div<S: Segment>(rm: Rm, cpu: &mut Cpu, seg: &mut S) -> Step
-    ensures effect { Answers (after_div rm (state cpu.old (S.bytes seg.old))) result (state cpu.old (S.bytes seg.old)) (state cpu.new (S.bytes seg.new)) }
+    ensures effect { Answers (after_div rm (state cpu.old (S.bytes seg.old))) result
+        (state cpu.old (S.bytes seg.old)) (state cpu.new (S.bytes seg.new)) }
     ensures never_instruction { result ≢ Step.Fault FaultKind.Instruction }
 {
     let Ok(divisor) = load(rm, cpu, seg) else {
@@ -184,9 +211,11 @@ fn div<S: Segment>(rm: Rm, cpu: &mut Cpu, seg: &mut S) -> Step
     Step::Next
 }
 
+/// `push`
 #[tactic(auto, unfolding(crate::specs::Effects::after_push))]
 fn push<S: Segment>(value: u32, cpu: &mut Cpu, seg: &mut S) -> Result<(), Outside>
-    ensures { Makes (after_push value) result (state cpu.old (S.bytes seg.old)) (state cpu.new (S.bytes seg.new)) }
+    ensures { Makes (after_push value) result
+        (state cpu.old (S.bytes seg.old)) (state cpu.new (S.bytes seg.new)) }
 {
     let top = cpu.get(Reg::Esp).wrapping_sub(4);
     seg.store32(top, value)?;
@@ -194,9 +223,11 @@ fn push<S: Segment>(value: u32, cpu: &mut Cpu, seg: &mut S) -> Result<(), Outsid
     Ok(())
 }
 
+/// `pop r`
 #[tactic(auto, unfolding(crate::specs::Effects::after_pop))]
 fn pop<S: Segment>(r: Reg, cpu: &mut Cpu, seg: &mut S) -> Result<(), Outside>
-    ensures { Makes (after_pop r) result (state cpu.old (S.bytes seg.old)) (state cpu.new (S.bytes seg.new)) }
+    ensures { Makes (after_pop r) result
+        (state cpu.old (S.bytes seg.old)) (state cpu.new (S.bytes seg.new)) }
 {
     let top = cpu.get(Reg::Esp);
     let value = seg.load32(top)?;
@@ -205,18 +236,22 @@ fn pop<S: Segment>(r: Reg, cpu: &mut Cpu, seg: &mut S) -> Result<(), Outside>
     Ok(())
 }
 
+/// `call`
 #[tactic(auto, unfolding(crate::specs::Effects::after_call))]
 fn call<S: Segment>(rel: u32, cpu: &mut Cpu, seg: &mut S) -> Result<(), Outside>
-    ensures { Makes (after_call rel) result (state cpu.old (S.bytes seg.old)) (state cpu.new (S.bytes seg.new)) }
+    ensures { Makes (after_call rel) result
+        (state cpu.old (S.bytes seg.old)) (state cpu.new (S.bytes seg.new)) }
 {
     push(cpu.eip, cpu, seg)?;
     cpu.eip = cpu.eip.wrapping_add(rel);
     Ok(())
 }
 
+/// `ret`
 #[tactic(auto, unfolding(crate::specs::Effects::after_ret))]
 fn ret<S: Segment>(cpu: &mut Cpu, seg: &mut S) -> Result<(), Outside>
-    ensures { Makes after_ret result (state cpu.old (S.bytes seg.old)) (state cpu.new (S.bytes seg.new)) }
+    ensures { Makes after_ret result
+        (state cpu.old (S.bytes seg.old)) (state cpu.new (S.bytes seg.new)) }
 {
     let top = cpu.get(Reg::Esp);
     let value = seg.load32(top)?;
@@ -235,6 +270,7 @@ fn step(result_of: Result<(), Outside>) -> Step
     }
 }
 
+/// A register gets a value.
 fn set(r: Reg, value: u32, cpu: &mut Cpu) -> Step
     ensures next { result ≡ Step.Next }
     ensures value { cpu.new ≡ set cpu.old r value }
@@ -243,6 +279,7 @@ fn set(r: Reg, value: u32, cpu: &mut Cpu) -> Step
     Step::Next
 }
 
+/// `inc r`
 fn increment(r: Reg, cpu: &mut Cpu) -> Step
     ensures next { result ≡ Step.Next }
     ensures value { cpu.new ≡ inc cpu.old r }
@@ -251,6 +288,7 @@ fn increment(r: Reg, cpu: &mut Cpu) -> Step
     Step::Next
 }
 
+/// `dec r`
 fn decrement(r: Reg, cpu: &mut Cpu) -> Step
     ensures next { result ≡ Step.Next }
     ensures value { cpu.new ≡ dec cpu.old r }
@@ -259,6 +297,7 @@ fn decrement(r: Reg, cpu: &mut Cpu) -> Step
     Step::Next
 }
 
+/// `jmp`
 fn jump(rel: u32, cpu: &mut Cpu) -> Step
     ensures next { result ≡ Step.Next }
     ensures target { cpu.new ≡ jumped cpu.old rel }
@@ -267,6 +306,7 @@ fn jump(rel: u32, cpu: &mut Cpu) -> Step
     Step::Next
 }
 
+/// A jump under a condition.
 fn jump_if(c: Cond, rel: u32, cpu: &mut Cpu) -> Step
     ensures next { result ≡ Step.Next }
     ensures target { cpu.new ≡ (if holds c cpu.old then jumped cpu.old rel else cpu.old) }
@@ -278,8 +318,10 @@ fn jump_if(c: Cond, rel: u32, cpu: &mut Cpu) -> Step
     }
 }
 
+/// `not`, `neg`, `mul`, `div`
 fn unary<S: Segment>(op: UnaryOp, rm: Rm, cpu: &mut Cpu, seg: &mut S) -> Step
-    ensures effect { Answers (does_unary op rm (state cpu.old (S.bytes seg.old))) result (state cpu.old (S.bytes seg.old)) (state cpu.new (S.bytes seg.new)) }
+    ensures effect { Answers (does_unary op rm (state cpu.old (S.bytes seg.old))) result
+        (state cpu.old (S.bytes seg.old)) (state cpu.new (S.bytes seg.new)) }
     ensures never_instruction { result ≢ Step.Fault FaultKind.Instruction }
 {
     match op {
@@ -293,10 +335,12 @@ fn unary<S: Segment>(op: UnaryOp, rm: Rm, cpu: &mut Cpu, seg: &mut S) -> Step
 /// Carries one instruction out. On entry `cpu.eip` is the offset after it. `Fault(Segment)` comes exactly where an
 /// access lies outside, `Fault(Divide)` exactly where a divisor is 0 or a quotient passes 32 bits.
 pub fn exec<S: Segment>(ins: &Ins, cpu: &mut Cpu, seg: &mut S) -> Step
-    ensures effect { Does ins.now result (state cpu.old (S.bytes seg.old)) (state cpu.new (S.bytes seg.new)) }
+    ensures effect { Does ins.now result
+        (state cpu.old (S.bytes seg.old)) (state cpu.new (S.bytes seg.new)) }
     // That no instruction stands there is for `decode` to find.
     ensures never_instruction { result ≢ Step.Fault FaultKind.Instruction }
-    ensures kept { IsKeptByFault result (state cpu.old (S.bytes seg.old)) (state cpu.new (S.bytes seg.new)) }
+    ensures kept { IsKeptByFault result
+        (state cpu.old (S.bytes seg.old)) (state cpu.new (S.bytes seg.new)) }
 {
     match *ins {
         Ins::Load(r, n) => set(r, n, cpu),

@@ -58,6 +58,8 @@ pub struct Mem {
 /// The operand that the fields mod and rm of a ModRM byte name.
 #[derive(Clone, Copy, Debug, PartialEq, Eq)]
 pub enum Rm {
+    /// mod 11
     Reg(Reg),
+    /// Any other mod.
     Mem(Mem),
 }

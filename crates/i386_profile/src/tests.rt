@@ -13,8 +13,9 @@ use crate::encoding::{chosen_spells, encode, round_trip};
 use crate::segment::{Outside, Segment};
 use accesses::{ACCESSES, BYTES, FAULTS, JUMPS};
 use spellings::{CHOSEN, NOTHING, OTHERS};
+use std::process::Abort;
 use std::test::Fail;
-use vectors::{CONDITIONS, TRAPS, VECTORS, WIDE};
+use vectors::{CONDITIONS, Row, TRAPS, VECTORS, WIDE, WideRow};
 
 /// A segment of twelve bytes.
 #[derive(Drop)]
@@ -118,47 +119,63 @@ fn other_spellings_and_none(rt: HostRuntime) -> Result<(), Fail> {
     Ok(())
 }
 
-#[test]
-fn answers_of_a_processor(rt: HostRuntime) -> Result<(), Fail> {
-    for (code, rows) in VECTORS {
-        assert!(rt; 0 < code.len());
-        for (a, c, flags, eax, left) in *rows {
-            let mut state = cpu([*a, *c, 5, 0, 0, 0, 0, 0], 0x100, flags);
-            let step = run(code, &mut state, &mut Block { bytes: BYTES })?;
-            assert_eq!(rt; step, Step::Next);
-            assert_eq!(rt;
-                state,
-                cpu([*eax, *c, 5, 0, 0, 0, 0, 0], 0x100, left),
-                "{code:?} {a} {c}"
-            );
-        }
+/// The step, and what is left of eax, ecx, edx and the flags.
+fn outcome(code: &[u8], regs: [u32; 3], flags: &[u8; 4]) -> Result<(Step, Cpu), Undecoded>
+    requires { 0 < length code.now }
+{
+    let mut state = low(regs, flags);
+    let step = run(code, &mut state, &mut Block { bytes: BYTES })?;
+    Ok((step, state))
+}
+
+/// eax, ecx, edx and flags, where the other registers are 0.
+fn low(regs: [u32; 3], flags: &[u8; 4]) -> Cpu {
+    let [a, c, d] = regs;
+    cpu([a, c, d, 0, 0, 0, 0, 0], 0x100, flags)
+}
+
+fn compare(rt: &impl Abort, code: &[u8], rows: &[Row]) -> Result<(), Fail> {
+    assert!(rt; 0 < code.len());
+    for (a, c, flags, eax, left) in rows {
+        let answer = outcome(code, [*a, *c, 5], flags)?;
+        assert_eq!(rt;
+            answer,
+            (Step::Next, low([*eax, *c, 5], left)),
+            "{code:?} {a} {c}"
+        );
+    }
+    Ok(())
+}
+
+fn compare_wide(rt: &impl Abort, code: &[u8], rows: &[WideRow]) -> Result<(), Fail> {
+    assert!(rt; 0 < code.len());
+    for (before, flags, after, left) in rows {
+        let regs = *before;
+        let [eax, edx] = *after;
+        let answer = outcome(code, regs, flags)?;
+        assert_eq!(rt;
+            answer,
+            (Step::Next, low([eax, regs[1], edx], left)),
+            "{code:?} {before:?}"
+        );
     }
     Ok(())
 }
 
 #[test]
-fn wide_answers_of_a_processor(rt: HostRuntime) -> Result<(), Fail> {
-    for (code, rows) in WIDE {
-        assert!(rt; 0 < code.len());
-        for ([a, c, d], flags, [eax, edx], left) in *rows {
-            let mut state = cpu([*a, *c, *d, 0, 0, 0, 0, 0], 0x100, flags);
-            let step = run(code, &mut state, &mut Block { bytes: BYTES })?;
-            assert_eq!(rt; step, Step::Next);
-            assert_eq!(rt;
-                state,
-                cpu([*eax, *c, *edx, 0, 0, 0, 0, 0], 0x100, left),
-                "{code:?} {a} {c} {d}"
-            );
-        }
+fn answers_of_a_processor(rt: HostRuntime) -> Result<(), Fail> {
+    for (code, rows) in VECTORS {
+        compare(&rt, code, rows)?;
     }
-    for [a, c, d] in TRAPS {
-        let mut state = cpu([*a, *c, *d, 0, 0, 0, 0, 0], 0x100, b"CZSO");
-        let before = state;
-        let step = run(&[0xF7, 0xF1], &mut state, &mut Block { bytes: BYTES })?;
+    for (code, rows) in WIDE {
+        compare_wide(&rt, code, rows)?;
+    }
+    for regs in TRAPS {
+        let answer = outcome(&[0xF7, 0xF1], *regs, b"CZSO")?;
         assert_eq!(rt;
-            (step, state),
-            (Step::Fault(FaultKind::Divide), before),
-            "{a} {c} {d}"
+            answer,
+            (Step::Fault(FaultKind::Divide), low(*regs, b"CZSO")),
+            "{regs:?}"
         );
     }
     Ok(())
