@@ -9,7 +9,7 @@ use Rattle.i386_profile.specs.declared.operands.Rm.TheVariants as rms
 use Rattle.i386_profile.specs.declared.ins.Ins.{Ins}
 use Rattle.i386_profile.specs.declared.ins.Ins.TheVariants.{Load, Put, MovTo, MovFrom, ByteTo, ByteFrom, Widen, WidenReg, Lea, Alu, AluFrom, AluImm, Test, Inc, Dec, Push, Pop, PushImm, Shift, Imul, Unary, Jmp, Jcc, Call, Ret, Gate, Nop}
 use Rattle.i386_profile.specs.Codes.{whole_of, reg_code}
-use Rattle.i386_profile.specs.Spelling.{IsDoubleword, IsByte, IsSignedByte, based, SpellsMemory, SpellsRm, one_byte, two_byte, Immediate, Slash, SlashImmediate, Exchanged, Spells}
+use Rattle.i386_profile.specs.Spelling.{IsDoubleword, IsByte, IsSignedByte, based, SpellsMemory, SpellsRm, one_byte, two_byte, HasImmediate, HasOperand, HasOperandImmediate, HasExchanged, Spells}
 use Rattle.i386_profile.specs.Spelling.{IsDisplacement}
 
 abbrev pub IsBounded : List ℕ → Type 0
@@ -68,20 +68,20 @@ two opcode = (omega arith, omega arith)
 alone_bounded : (opcode : ℕ) (a : List ℕ) → a ≡ one_byte opcode → IsBounded a
 alone_bounded opcode a e = (omega (arith, ap length e), omega (arith, ap length e))
 
-immediate_bounded : (Is : ℕ → List ℕ → Type 0) (opcode : List ℕ) (n : ℕ) (a : List ℕ) → IsShort Is → IsOpcode opcode → Immediate Is opcode n a → IsBounded a
+immediate_bounded : (Is : ℕ → List ℕ → Type 0) (opcode : List ℕ) (n : ℕ) (a : List ℕ) → IsShort Is → IsOpcode opcode → HasImmediate Is opcode n a → IsBounded a
 immediate_bounded Is opcode n a short head (i, is, e) =
     let l = ap length e ∙ length-append opcode i in
     let tail = short n i is in
     (omega arith, omega arith)
 
-slash_bounded : (opcode : List ℕ) (reg : ℕ) (rm : Rm) (a : List ℕ) → IsOpcode opcode → Slash opcode reg rm a → IsBounded a
+slash_bounded : (opcode : List ℕ) (reg : ℕ) (rm : Rm) (a : List ℕ) → IsOpcode opcode → HasOperand opcode reg rm a → IsBounded a
 slash_bounded opcode reg rm a head (o, so, e) =
     let l = ap length e ∙ length-append opcode o in
     let tail = rm_length reg rm o so in
     (omega arith, omega arith)
 
 slash_immediate_bounded : (Is : ℕ → List ℕ → Type 0) (opcode : List ℕ) (reg : ℕ) (rm : Rm) (n : ℕ) (a : List ℕ) → IsShort Is → IsOpcode opcode
-    → SlashImmediate Is opcode reg rm n a → IsBounded a
+    → HasOperandImmediate Is opcode reg rm n a → IsBounded a
 slash_immediate_bounded Is opcode reg rm n a short head (o, i, so, is, e) =
     let l = ap length e ∙ length-append (opcode ++ o) i in
     let m = length-append opcode o in
@@ -89,22 +89,22 @@ slash_immediate_bounded Is opcode reg rm n a short head (o, i, so, is, e) =
     let tail = short n i is in
     (omega arith, omega arith)
 
-one_immediate : (Is : ℕ → List ℕ → Type 0) (opcode n : ℕ) (a : List ℕ) → IsShort Is → Immediate Is (one_byte opcode) n a → IsBounded a
+one_immediate : (Is : ℕ → List ℕ → Type 0) (opcode n : ℕ) (a : List ℕ) → IsShort Is → HasImmediate Is (one_byte opcode) n a → IsBounded a
 one_immediate Is opcode n a short h = immediate_bounded Is (one_byte opcode) n a short (one opcode) h
 
-two_immediate : (Is : ℕ → List ℕ → Type 0) (opcode n : ℕ) (a : List ℕ) → IsShort Is → Immediate Is (two_byte opcode) n a → IsBounded a
+two_immediate : (Is : ℕ → List ℕ → Type 0) (opcode n : ℕ) (a : List ℕ) → IsShort Is → HasImmediate Is (two_byte opcode) n a → IsBounded a
 two_immediate Is opcode n a short h = immediate_bounded Is (two_byte opcode) n a short (two opcode) h
 
-one_slash : (opcode reg : ℕ) (rm : Rm) (a : List ℕ) → Slash (one_byte opcode) reg rm a → IsBounded a
+one_slash : (opcode reg : ℕ) (rm : Rm) (a : List ℕ) → HasOperand (one_byte opcode) reg rm a → IsBounded a
 one_slash opcode reg rm a h = slash_bounded (one_byte opcode) reg rm a (one opcode) h
 
-two_slash : (opcode reg : ℕ) (rm : Rm) (a : List ℕ) → Slash (two_byte opcode) reg rm a → IsBounded a
+two_slash : (opcode reg : ℕ) (rm : Rm) (a : List ℕ) → HasOperand (two_byte opcode) reg rm a → IsBounded a
 two_slash opcode reg rm a h = slash_bounded (two_byte opcode) reg rm a (two opcode) h
 
-one_slash_immediate : (Is : ℕ → List ℕ → Type 0) (opcode reg : ℕ) (rm : Rm) (n : ℕ) (a : List ℕ) → IsShort Is → SlashImmediate Is (one_byte opcode) reg rm n a → IsBounded a
+one_slash_immediate : (Is : ℕ → List ℕ → Type 0) (opcode reg : ℕ) (rm : Rm) (n : ℕ) (a : List ℕ) → IsShort Is → HasOperandImmediate Is (one_byte opcode) reg rm n a → IsBounded a
 one_slash_immediate Is opcode reg rm n a short h = slash_immediate_bounded Is (one_byte opcode) reg rm n a short (one opcode) h
 
-exchanged_bounded : (opcode : ℕ) (rm : Rm) (r : Reg) (a : List ℕ) → Exchanged (one_byte opcode) rm r a → IsBounded a
+exchanged_bounded : (opcode : ℕ) (rm : Rm) (r : Reg) (a : List ℕ) → HasExchanged (one_byte opcode) rm r a → IsBounded a
 exchanged_bounded opcode (rms.Reg s) r a h = one_slash opcode (reg_code s) (rms.Reg r) a h
 exchanged_bounded opcode (rms.Mem m) r a none = absurd none
 

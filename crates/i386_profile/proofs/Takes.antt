@@ -13,7 +13,7 @@ use Rattle.i386_profile.specs.declared.ins.Cond.{Cond}
 use Rattle.i386_profile.specs.declared.ins.Ins.{Ins}
 use Rattle.i386_profile.specs.declared.ins.Ins.TheVariants.{Ret, Nop}
 use Rattle.i386_profile.specs.Codes.{whole_of, reg_code, alu_code, alu_opcode, alu_from_opcode, shift_code, unary_code, cond_code}
-use Rattle.i386_profile.specs.Spelling.{IsDoubleword, IsByte, IsSignedByte, SpellsRm, one_byte, two_byte, Immediate, Slash, SlashImmediate, Spells}
+use Rattle.i386_profile.specs.Spelling.{IsDoubleword, IsByte, IsSignedByte, SpellsRm, one_byte, two_byte, HasImmediate, HasOperand, HasOperandImmediate, Spells}
 use Rattle.i386_profile.specs.Reading.{reg_of, byte_reg_of, alu_of, shift_of, unary_of, low_cond_of, high_cond_of, cond_of, byte_at, doubleword_at, signed_byte_at, Operands, operands_at, Read, mov_from, alu_from, lea, byte_to, byte_from, widen, put, alu_at, register_at, immediate_at, short_jcc_at, jcc_at, alu_imm_at, mov_ins, mov_at, shift_at, put_at, gate_at, short_jmp_at, unary_at, imul_at, widen_at, two_byte_at, low_at, middle_at, high_at, instruction_at}
 use Rattle.i386_profile.proofs.Fields.{IsBytes, IsBytes-rest, bind_some, branch, some_is, Took, byte_takes, doubleword_takes, signed_takes, reg_takes, reg_again}
 use Rattle.i386_profile.proofs.ModRm.{operands_takes}
@@ -40,16 +40,16 @@ as_is bytes rest f t = record { text = t.text; spelled = f t.text t.spelled; par
 
 -- ---- opcode, operands, number
 
-slash : (b opcode reg : ℕ) (rm : Rm) (bytes rest : List ℕ) → b ≡ opcode → Took (SpellsRm reg rm) bytes rest → Took (Slash (one_byte opcode) reg rm) (b ∷ bytes) rest
+slash : (b opcode reg : ℕ) (rm : Rm) (bytes rest : List ℕ) → b ≡ opcode → Took (SpellsRm reg rm) bytes rest → Took (HasOperand (one_byte opcode) reg rm) (b ∷ bytes) rest
 slash b opcode reg rm bytes rest e t =
     record { text = b ∷ t.text; spelled = (t.text, t.spelled, ap (λ k. k ∷ t.text) e); parts = ap (λ (r : List ℕ). b ∷ r) t.parts; rest_fits = t.rest_fits }
 
-escaped_slash : (b opcode reg : ℕ) (rm : Rm) (bytes rest : List ℕ) → b ≡ opcode → Took (SpellsRm reg rm) bytes rest → Took (Slash (two_byte opcode) reg rm) (0x0F ∷ b ∷ bytes) rest
+escaped_slash : (b opcode reg : ℕ) (rm : Rm) (bytes rest : List ℕ) → b ≡ opcode → Took (SpellsRm reg rm) bytes rest → Took (HasOperand (two_byte opcode) reg rm) (0x0F ∷ b ∷ bytes) rest
 escaped_slash b opcode reg rm bytes rest e t =
     record { text = 0x0F ∷ b ∷ t.text; spelled = (t.text, t.spelled, ap (λ k. 0x0F ∷ k ∷ t.text) e); parts = ap (λ (r : List ℕ). 0x0F ∷ b ∷ r) t.parts; rest_fits = t.rest_fits }
 
 slash_immediate : (Is : ℕ → List ℕ → Type 0) (opcode reg : ℕ) (rm : Rm) (n : ℕ) (bytes mid rest : List ℕ)
-    → Took (SpellsRm reg rm) bytes mid → Took (Is n) mid rest → Took (SlashImmediate Is (one_byte opcode) reg rm n) (opcode ∷ bytes) rest
+    → Took (SpellsRm reg rm) bytes mid → Took (Is n) mid rest → Took (HasOperandImmediate Is (one_byte opcode) reg rm n) (opcode ∷ bytes) rest
 slash_immediate Is opcode reg rm n bytes mid rest t i = record {
   text = opcode ∷ (t.text ++ i.text);
   spelled = (t.text, i.text, t.spelled, i.spelled, refl);
@@ -57,7 +57,7 @@ slash_immediate Is opcode reg rm n bytes mid rest t i = record {
   rest_fits = i.rest_fits;
 }
 
-immediate : (Is : ℕ → List ℕ → Type 0) (b opcode n : ℕ) (bytes rest : List ℕ) → b ≡ opcode → Took (Is n) bytes rest → Took (Immediate Is (one_byte opcode) n) (b ∷ bytes) rest
+immediate : (Is : ℕ → List ℕ → Type 0) (b opcode n : ℕ) (bytes rest : List ℕ) → b ≡ opcode → Took (Is n) bytes rest → Took (HasImmediate Is (one_byte opcode) n) (b ∷ bytes) rest
 immediate Is b opcode n bytes rest e i =
     record { text = b ∷ i.text; spelled = (i.text, i.spelled, ap (λ k. k ∷ i.text) e); parts = ap (λ (r : List ℕ). b ∷ r) i.parts; rest_fits = i.rest_fits }
 
@@ -120,38 +120,38 @@ code_is r s e = sym (reg_again r) ∙ ap reg_of e ∙ reg_again s
 
 -- ---- operands whose kind chooses the instruction
 
-mov_from_ends : (r : Reg) (rm : Rm) (bytes rest : List ℕ) → Took (Slash (one_byte 0x8B) (reg_code r) rm) bytes rest → Ends (mov_from r rm) bytes rest
+mov_from_ends : (r : Reg) (rm : Rm) (bytes rest : List ℕ) → Took (HasOperand (one_byte 0x8B) (reg_code r) rm) bytes rest → Ends (mov_from r rm) bytes rest
 mov_from_ends r (rms.Reg s) bytes rest t = as_is bytes rest (λ _ h. inr h) t
 mov_from_ends r (rms.Mem m) bytes rest t = t
 
-alu_from_ends : (op : AluOp) (r : Reg) (rm : Rm) (bytes rest : List ℕ) → Took (Slash (one_byte (alu_from_opcode op)) (reg_code r) rm) bytes rest → Ends (alu_from op r rm) bytes rest
+alu_from_ends : (op : AluOp) (r : Reg) (rm : Rm) (bytes rest : List ℕ) → Took (HasOperand (one_byte (alu_from_opcode op)) (reg_code r) rm) bytes rest → Ends (alu_from op r rm) bytes rest
 alu_from_ends op r (rms.Reg s) bytes rest t = as_is bytes rest (λ _ h. inr h) t
 alu_from_ends op r (rms.Mem m) bytes rest t = t
 
-lea_ends : (r : Reg) (rm : Rm) (ins : Ins) (bytes rest : List ℕ) → lea r rm ≡ Some ins → Took (Slash (one_byte 0x8D) (reg_code r) rm) bytes rest → Ends ins bytes rest
+lea_ends : (r : Reg) (rm : Rm) (ins : Ins) (bytes rest : List ℕ) → lea r rm ≡ Some ins → Took (HasOperand (one_byte 0x8D) (reg_code r) rm) bytes rest → Ends ins bytes rest
 lea_ends r (rms.Reg s) ins bytes rest e t = no_ins ins e
 lea_ends r (rms.Mem m) ins bytes rest e t = subst (λ (i : Ins). Ends i bytes rest) (some_is _ _ e) t
 
-byte_to_ends : (reg : ℕ) (rm : Rm) (ins : Ins) (bytes rest : List ℕ) → byte_to reg rm ≡ Some ins → Took (Slash (one_byte 0x88) reg rm) bytes rest → Ends ins bytes rest
+byte_to_ends : (reg : ℕ) (rm : Rm) (ins : Ins) (bytes rest : List ℕ) → byte_to reg rm ≡ Some ins → Took (HasOperand (one_byte 0x88) reg rm) bytes rest → Ends ins bytes rest
 byte_to_ends reg (rms.Reg s) ins bytes rest e t = no_ins ins e
 byte_to_ends reg (rms.Mem m) ins bytes rest e t =
     let b = bind_some (byte_reg_of reg) _ _ e in
-    subst (λ (i : Ins). Ends i bytes rest) (some_is _ _ b.2) (subst (λ k. Took (Slash (one_byte 0x88) k (rms.Mem m)) bytes rest) (byte_found reg b.0 b.1) t)
+    subst (λ (i : Ins). Ends i bytes rest) (some_is _ _ b.2) (subst (λ k. Took (HasOperand (one_byte 0x88) k (rms.Mem m)) bytes rest) (byte_found reg b.0 b.1) t)
 
-byte_from_ends : (reg : ℕ) (rm : Rm) (ins : Ins) (bytes rest : List ℕ) → byte_from reg rm ≡ Some ins → Took (Slash (one_byte 0x8A) reg rm) bytes rest → Ends ins bytes rest
+byte_from_ends : (reg : ℕ) (rm : Rm) (ins : Ins) (bytes rest : List ℕ) → byte_from reg rm ≡ Some ins → Took (HasOperand (one_byte 0x8A) reg rm) bytes rest → Ends ins bytes rest
 byte_from_ends reg (rms.Reg s) ins bytes rest e t = no_ins ins e
 byte_from_ends reg (rms.Mem m) ins bytes rest e t =
     let b = bind_some (byte_reg_of reg) _ _ e in
-    subst (λ (i : Ins). Ends i bytes rest) (some_is _ _ b.2) (subst (λ k. Took (Slash (one_byte 0x8A) k (rms.Mem m)) bytes rest) (byte_found reg b.0 b.1) t)
+    subst (λ (i : Ins). Ends i bytes rest) (some_is _ _ b.2) (subst (λ k. Took (HasOperand (one_byte 0x8A) k (rms.Mem m)) bytes rest) (byte_found reg b.0 b.1) t)
 
-widen_ends : (r : Reg) (rm : Rm) (ins : Ins) (bytes rest : List ℕ) → widen r rm ≡ Some ins → Took (Slash (two_byte 0xB6) (reg_code r) rm) bytes rest → Ends ins bytes rest
+widen_ends : (r : Reg) (rm : Rm) (ins : Ins) (bytes rest : List ℕ) → widen r rm ≡ Some ins → Took (HasOperand (two_byte 0xB6) (reg_code r) rm) bytes rest → Ends ins bytes rest
 widen_ends r (rms.Reg s) ins bytes rest e t =
     let b = bind_some (byte_reg_of (reg_code s)) _ _ e in
     let same = code_is s (whole_of b.0) (byte_found _ b.0 b.1) in
-    subst (λ (i : Ins). Ends i bytes rest) (some_is _ _ b.2) (subst (λ (q : Reg). Took (Slash (two_byte 0xB6) (reg_code r) (rms.Reg q)) bytes rest) same t)
+    subst (λ (i : Ins). Ends i bytes rest) (some_is _ _ b.2) (subst (λ (q : Reg). Took (HasOperand (two_byte 0xB6) (reg_code r) (rms.Reg q)) bytes rest) same t)
 widen_ends r (rms.Mem m) ins bytes rest e t = subst (λ (i : Ins). Ends i bytes rest) (some_is _ _ e) t
 
-put_ends : (rm : Rm) (n : ℕ) (bytes rest : List ℕ) → Took (SlashImmediate IsDoubleword (one_byte 0xC7) 0 rm n) bytes rest → Ends (put rm n) bytes rest
+put_ends : (rm : Rm) (n : ℕ) (bytes rest : List ℕ) → Took (HasOperandImmediate IsDoubleword (one_byte 0xC7) 0 rm n) bytes rest → Ends (put rm n) bytes rest
 put_ends (rms.Reg s) n bytes rest t = as_is bytes rest (λ _ h. inr h) t
 put_ends (rms.Mem m) n bytes rest t = t
 

@@ -168,7 +168,7 @@ after_mul rm s = do
   b ← load_rm s rm
   Ok (record s { cpu = mul s.cpu b })
 
--- edx:eax by the divisor, the quotient in eax and the rest in edx. Divide comes exactly where the divisor, once it is
+-- edx:eax by the divisor, the quotient in eax and the remainder in edx. Divide comes exactly where the divisor, once it is
 -- loaded, is 0, or the quotient passes 32 bits. The flags are kept.
 abbrev pub divided : Result ℕ Outside → State → Outcome
 divided (Err e) s = Faults faults.Segment

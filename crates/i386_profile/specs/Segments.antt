@@ -28,7 +28,7 @@ abbrev pub store32 : ℕ → ℕ → List ℕ → Result (List ℕ) Outside
 store32 at value bytes =
     if is_outside 4 at bytes then Err outside else Ok (take at bytes ++ to_le_bytes w32 value ++ drop (at + 4) bytes)
 
--- what a call that tries this leaves: the value made, or it is outside and leaves the old one
+-- The call ended with the value made, or it is outside and left the old one.
 abbrev pub EndsAs : {X U : Type 0} → Result X Outside → Result U Outside → X → X → Type 0
 EndsAs (Ok made) result old new = IsOk result × (new ≡ made)
 EndsAs (Err e) result old new = (result ≡ Err e) × (new ≡ old)

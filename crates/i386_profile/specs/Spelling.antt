@@ -38,7 +38,7 @@ abbrev pub based : ℕ → ℕ → Reg → List ℕ
 based mode reg Esp = modrm mode reg 4 ∷ 0x24 ∷ []
 based mode reg base = modrm mode reg (reg_code base) ∷ []
 
--- The displacement from a base that mod announces: none for 00, which ebp does not have, disp8 for 01, disp32 for 10.
+-- the displacement that mod announces: none for 00, a form that ebp does not have, disp8 for 01, disp32 for 10
 abbrev pub IsDisplacement : ℕ → Reg → ℕ → List ℕ → Type 0
 IsDisplacement mode base disp bytes =
     ((mode ≡ 0) × (base ≢ Ebp) × (disp ≡ 0) × (bytes ≡ []))
@@ -48,7 +48,8 @@ IsDisplacement mode base disp bytes =
 -- a place in memory with reg in its ModRM byte; mod 00 with rm 101 is a disp32 without a base
 abbrev pub SpellsMemory : ℕ → Option Reg → ℕ → List ℕ → Type 0
 SpellsMemory reg None disp bytes = (d : List ℕ) × IsDoubleword disp d × (bytes ≡ modrm 0 reg 5 ∷ d)
-SpellsMemory reg (Some base) disp bytes = (mode : ℕ) × (d : List ℕ) × IsDisplacement mode base disp d × (bytes ≡ based mode reg base ++ d)
+SpellsMemory reg (Some base) disp bytes =
+    (mode : ℕ) × (d : List ℕ) × IsDisplacement mode base disp d × (bytes ≡ based mode reg base ++ d)
 
 -- an operand with reg in its ModRM byte; mod 11 is a register
 abbrev pub SpellsRm : ℕ → Rm → List ℕ → Type 0
@@ -65,54 +66,66 @@ one_byte opcode = opcode ∷ []
 abbrev pub two_byte : ℕ → List ℕ
 two_byte opcode = 0x0F ∷ opcode ∷ []
 
--- an opcode and a number
-abbrev pub Immediate : (ℕ → List ℕ → Type 0) → List ℕ → ℕ → List ℕ → Type 0
-Immediate IsNumber opcode n bytes = (i : List ℕ) × IsNumber n i × (bytes ≡ opcode ++ i)
+-- an opcode and an immediate number
+abbrev pub HasImmediate : (ℕ → List ℕ → Type 0) → List ℕ → ℕ → List ℕ → Type 0
+HasImmediate IsNumber opcode n bytes = (i : List ℕ) × IsNumber n i × (bytes ≡ opcode ++ i)
 
 -- /r and /n: an opcode and an operand, with a register's number or n in reg
-abbrev pub Slash : List ℕ → ℕ → Rm → List ℕ → Type 0
-Slash opcode reg rm bytes = (o : List ℕ) × SpellsRm reg rm o × (bytes ≡ opcode ++ o)
+abbrev pub HasOperand : List ℕ → ℕ → Rm → List ℕ → Type 0
+HasOperand opcode reg rm bytes = (o : List ℕ) × SpellsRm reg rm o × (bytes ≡ opcode ++ o)
 
--- the same with a number behind it
-abbrev pub SlashImmediate : (ℕ → List ℕ → Type 0) → List ℕ → ℕ → Rm → ℕ → List ℕ → Type 0
-SlashImmediate IsNumber opcode reg rm n bytes =
+-- the same, and an immediate number
+abbrev pub HasOperandImmediate : (ℕ → List ℕ → Type 0) → List ℕ → ℕ → Rm → ℕ → List ℕ → Type 0
+HasOperandImmediate IsNumber opcode reg rm n bytes =
     (o : List ℕ) × (i : List ℕ) × SpellsRm reg rm o × IsNumber n i × (bytes ≡ opcode ++ o ++ i)
 
 -- `op r, rm` for `op rm, r` of two registers: rm stands in reg, and r in rm
-abbrev pub Exchanged : List ℕ → Rm → Reg → List ℕ → Type 0
-Exchanged opcode (rms.Reg s) r bytes = Slash opcode (reg_code s) (rms.Reg r) bytes
-Exchanged opcode (rms.Mem m) r bytes = ⊥
+abbrev pub HasExchanged : List ℕ → Rm → Reg → List ℕ → Type 0
+HasExchanged opcode (rms.Reg s) r bytes = HasOperand opcode (reg_code s) (rms.Reg r) bytes
+HasExchanged opcode (rms.Mem m) r bytes = ⊥
 
 -- ---- the table
 
 -- The bytes spell the instruction.
 abbrev pub Spells : Ins → List ℕ → Type 0
-Spells (Load r n) bytes = Immediate IsDoubleword (one_byte (0xB8 + reg_code r)) n bytes ⊎ SlashImmediate IsDoubleword (one_byte 0xC7) 0 (rms.Reg r) n bytes
-Spells (Put m n) bytes = SlashImmediate IsDoubleword (one_byte 0xC7) 0 (rms.Mem m) n bytes
-Spells (MovTo rm r) bytes = Slash (one_byte 0x89) (reg_code r) rm bytes ⊎ Exchanged (one_byte 0x8B) rm r bytes
-Spells (MovFrom r m) bytes = Slash (one_byte 0x8B) (reg_code r) (rms.Mem m) bytes
-Spells (ByteTo m b) bytes = Slash (one_byte 0x88) (reg_code (whole_of b)) (rms.Mem m) bytes
-Spells (ByteFrom b m) bytes = Slash (one_byte 0x8A) (reg_code (whole_of b)) (rms.Mem m) bytes
-Spells (Widen r m) bytes = Slash (two_byte 0xB6) (reg_code r) (rms.Mem m) bytes
-Spells (WidenReg r b) bytes = Slash (two_byte 0xB6) (reg_code r) (rms.Reg (whole_of b)) bytes
-Spells (Lea r m) bytes = Slash (one_byte 0x8D) (reg_code r) (rms.Mem m) bytes
-Spells (Alu op rm r) bytes = Slash (one_byte (alu_opcode op)) (reg_code r) rm bytes ⊎ Exchanged (one_byte (alu_from_opcode op)) rm r bytes
-Spells (AluFrom op r m) bytes = Slash (one_byte (alu_from_opcode op)) (reg_code r) (rms.Mem m) bytes
-Spells (AluImm op rm n) bytes = SlashImmediate IsSignedByte (one_byte 0x83) (alu_code op) rm n bytes ⊎ SlashImmediate IsDoubleword (one_byte 0x81) (alu_code op) rm n bytes
-Spells (Test rm r) bytes = Slash (one_byte 0x85) (reg_code r) rm bytes
+Spells (Load r n) bytes =
+    HasImmediate IsDoubleword (one_byte (0xB8 + reg_code r)) n bytes
+    ⊎ HasOperandImmediate IsDoubleword (one_byte 0xC7) 0 (rms.Reg r) n bytes
+Spells (Put m n) bytes = HasOperandImmediate IsDoubleword (one_byte 0xC7) 0 (rms.Mem m) n bytes
+Spells (MovTo rm r) bytes =
+    HasOperand (one_byte 0x89) (reg_code r) rm bytes
+    ⊎ HasExchanged (one_byte 0x8B) rm r bytes
+Spells (MovFrom r m) bytes = HasOperand (one_byte 0x8B) (reg_code r) (rms.Mem m) bytes
+Spells (ByteTo m b) bytes = HasOperand (one_byte 0x88) (reg_code (whole_of b)) (rms.Mem m) bytes
+Spells (ByteFrom b m) bytes = HasOperand (one_byte 0x8A) (reg_code (whole_of b)) (rms.Mem m) bytes
+Spells (Widen r m) bytes = HasOperand (two_byte 0xB6) (reg_code r) (rms.Mem m) bytes
+Spells (WidenReg r b) bytes = HasOperand (two_byte 0xB6) (reg_code r) (rms.Reg (whole_of b)) bytes
+Spells (Lea r m) bytes = HasOperand (one_byte 0x8D) (reg_code r) (rms.Mem m) bytes
+Spells (Alu op rm r) bytes =
+    HasOperand (one_byte (alu_opcode op)) (reg_code r) rm bytes
+    ⊎ HasExchanged (one_byte (alu_from_opcode op)) rm r bytes
+Spells (AluFrom op r m) bytes = HasOperand (one_byte (alu_from_opcode op)) (reg_code r) (rms.Mem m) bytes
+Spells (AluImm op rm n) bytes =
+    HasOperandImmediate IsSignedByte (one_byte 0x83) (alu_code op) rm n bytes
+    ⊎ HasOperandImmediate IsDoubleword (one_byte 0x81) (alu_code op) rm n bytes
+Spells (Test rm r) bytes = HasOperand (one_byte 0x85) (reg_code r) rm bytes
 Spells (Inc r) bytes = bytes ≡ one_byte (0x40 + reg_code r)
 Spells (Dec r) bytes = bytes ≡ one_byte (0x48 + reg_code r)
 Spells (Push r) bytes = bytes ≡ one_byte (0x50 + reg_code r)
 Spells (Pop r) bytes = bytes ≡ one_byte (0x58 + reg_code r)
-Spells (PushImm n) bytes = Immediate IsDoubleword (one_byte 0x68) n bytes
-Spells (Shift op rm count) bytes = SlashImmediate IsByte (one_byte 0xC1) (shift_code op) rm count bytes
-Spells (Imul r rm) bytes = Slash (two_byte 0xAF) (reg_code r) rm bytes
-Spells (Unary op rm) bytes = Slash (one_byte 0xF7) (unary_code op) rm bytes
-Spells (Jmp rel) bytes = Immediate IsDoubleword (one_byte 0xE9) rel bytes ⊎ Immediate IsSignedByte (one_byte 0xEB) rel bytes
-Spells (Jcc c rel) bytes = Immediate IsDoubleword (two_byte (0x80 + cond_code c)) rel bytes ⊎ Immediate IsSignedByte (one_byte (0x70 + cond_code c)) rel bytes
-Spells (Call rel) bytes = Immediate IsDoubleword (one_byte 0xE8) rel bytes
+Spells (PushImm n) bytes = HasImmediate IsDoubleword (one_byte 0x68) n bytes
+Spells (Shift op rm count) bytes = HasOperandImmediate IsByte (one_byte 0xC1) (shift_code op) rm count bytes
+Spells (Imul r rm) bytes = HasOperand (two_byte 0xAF) (reg_code r) rm bytes
+Spells (Unary op rm) bytes = HasOperand (one_byte 0xF7) (unary_code op) rm bytes
+Spells (Jmp rel) bytes =
+    HasImmediate IsDoubleword (one_byte 0xE9) rel bytes
+    ⊎ HasImmediate IsSignedByte (one_byte 0xEB) rel bytes
+Spells (Jcc c rel) bytes =
+    HasImmediate IsDoubleword (two_byte (0x80 + cond_code c)) rel bytes
+    ⊎ HasImmediate IsSignedByte (one_byte (0x70 + cond_code c)) rel bytes
+Spells (Call rel) bytes = HasImmediate IsDoubleword (one_byte 0xE8) rel bytes
 Spells Ret bytes = bytes ≡ one_byte 0xC3
-Spells (Gate n) bytes = Immediate IsByte (one_byte 0xCD) n bytes
+Spells (Gate n) bytes = HasImmediate IsByte (one_byte 0xCD) n bytes
 Spells Nop bytes = bytes ≡ one_byte 0x90
 
 -- The first n bytes spell the instruction.

@@ -26,7 +26,8 @@ fn first(bytes: &[u8]) -> Result<(Ins, usize), Undecoded>
     }
 }
 
-/// The instruction that some front of the bytes from `at` on spells, and that front's length.
+/// The instruction that some front of the bytes from `at` on spells, and that front's length. `Undecoded` comes
+/// exactly where no front spells one.
 pub fn decode(bytes: &[u8], at: usize) -> Result<(Ins, usize), Undecoded>
     requires { at < length bytes.now }
     // What is answered is spelled there.

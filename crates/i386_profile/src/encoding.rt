@@ -189,7 +189,8 @@ fn write(ins: Ins, w: &mut Writer)
     }
 }
 
-/// Writes the chosen spelling at the front of `out`, leaves the rest, and answers the spelling's length.
+/// Writes the chosen spelling at the front of `out`, leaves the rest, and answers the spelling's length in
+/// bytes.
 pub fn encode(ins: &Ins, out: &mut [u8; 16]) -> usize
     ensures written { out.new ≡ chosen ins.now ++ drop result out.old }
     ensures length { result ≡ length (chosen ins.now) }

@@ -10,7 +10,7 @@ pub struct Outside;
 /// Bytes at the offsets from 0 on. Doublewords are little-endian and may stand at any offset. A call is `Outside`
 /// exactly where its offset plus its width, 1 or 4, passes the length, and then changes nothing.
 pub trait Segment {
-    // The bytes, each below 256.
+    // The bytes from offset 0 on.
     ghost bytes: { Self → List ℕ };
 
     /// The byte at an offset.

@@ -123,13 +123,13 @@ fn other_spellings_and_none(rt: HostRuntime) -> Result<(), Fail> {
 fn outcome(code: &[u8], regs: [u32; 3], flags: &[u8; 4]) -> Result<(Step, Cpu), Undecoded>
     requires { 0 < length code.now }
 {
-    let mut state = low(regs, flags);
+    let mut state = state_of(regs, flags);
     let step = run(code, &mut state, &mut Block { bytes: BYTES })?;
     Ok((step, state))
 }
 
 /// eax, ecx, edx and flags, where the other registers are 0.
-fn low(regs: [u32; 3], flags: &[u8; 4]) -> Cpu {
+fn state_of(regs: [u32; 3], flags: &[u8; 4]) -> Cpu {
     let [a, c, d] = regs;
     cpu([a, c, d, 0, 0, 0, 0, 0], 0x100, flags)
 }
@@ -140,7 +140,7 @@ fn compare(rt: &impl Abort, code: &[u8], rows: &[Row]) -> Result<(), Fail> {
         let answer = outcome(code, [*a, *c, 5], flags)?;
         assert_eq!(rt;
             answer,
-            (Step::Next, low([*eax, *c, 5], left)),
+            (Step::Next, state_of([*eax, *c, 5], left)),
             "{code:?} {a} {c}"
         );
     }
@@ -155,7 +155,7 @@ fn compare_wide(rt: &impl Abort, code: &[u8], rows: &[WideRow]) -> Result<(), Fa
         let answer = outcome(code, regs, flags)?;
         assert_eq!(rt;
             answer,
-            (Step::Next, low([eax, regs[1], edx], left)),
+            (Step::Next, state_of([eax, regs[1], edx], left)),
             "{code:?} {before:?}"
         );
     }
@@ -174,7 +174,7 @@ fn answers_of_a_processor(rt: HostRuntime) -> Result<(), Fail> {
         let answer = outcome(&[0xF7, 0xF1], *regs, b"CZSO")?;
         assert_eq!(rt;
             answer,
-            (Step::Fault(FaultKind::Divide), low(*regs, b"CZSO")),
+            (Step::Fault(FaultKind::Divide), state_of(*regs, b"CZSO")),
             "{regs:?}"
         );
     }
