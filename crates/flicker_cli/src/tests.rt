@@ -3,6 +3,7 @@ use crate::fault::StartFault;
 use crate::top::flicker;
 use flk_base::{MemSink, MemSource};
 use flk_run::{Board, SimDisk};
+use std::process::Abort;
 use std::test::Fail;
 
 // What a call answered and wrote.
@@ -116,84 +117,63 @@ fn other_words(rt: HostRuntime) -> Result<(), Fail> {
     Ok(())
 }
 
+// A call that fails: its script, its faults, what out and err then hold, and the status.
+type Failing<'a> = (&'a str, Faults<'a>, &'a str, &'a str, u8);
+
+// What a call wrote and answered is what its row says.
+fn as_told(rt: &impl Abort, written: &Written, out: &str, err: &str, status: u8) {
+    assert_eq!(rt; written.out.contents(), out.as_bytes());
+    assert_eq!(rt; written.err.contents(), err.as_bytes());
+    assert_eq!(rt; written.status, status);
+}
+
 #[test]
-fn calls_that_fail(rt: HostRuntime) -> Result<(), Fail> {
+fn reads_that_fail(rt: HostRuntime) -> Result<(), Fail> {
     let ones = "1 ok x:ffffffffffffffffffffffffffffffffffffffff\n";
-    let rows: [(&str, u32, Faults<'_>, &str, &str, u8); 6] = [
-        // The first read fails, and the second behind a whole line.
-        (
-            "read 17\n",
-            99,
-            Faults {
-                reads: &[0],
-                ..NONE
-            },
-            "",
-            "flicker: read fault\n",
-            3,
-        ),
-        (
-            "read 17\nread 1",
-            14,
-            Faults {
-                reads: &[1],
-                ..NONE
-            },
-            ones,
-            "flicker: read fault\n",
-            3,
-        ),
-        // The first put on out fails.
-        (
-            "read 17\n",
-            99,
-            Faults { puts: &[0], ..NONE },
-            "",
-            "flicker: write fault\n",
-            4,
-        ),
-        // The put of a message fails: nothing more is told.
-        (
-            "read 17\nreed",
-            99,
-            Faults {
-                messages: &[0],
-                ..NONE
-            },
-            ones,
-            "",
-            4,
-        ),
-        (
-            "read 17\n",
-            99,
-            Faults {
-                puts: &[0],
-                messages: &[0],
-                ..NONE
-            },
-            "",
-            "",
-            4,
-        ),
-        (
-            "read 17\n",
-            99,
-            Faults {
-                reads: &[0],
-                messages: &[0],
-                ..NONE
-            },
-            "",
-            "",
-            4,
-        ),
+    let first = Faults {
+        reads: &[0],
+        ..NONE
+    };
+    let second = Faults {
+        reads: &[1],
+        ..NONE
+    };
+    let silent = Faults {
+        messages: &[0],
+        ..first
+    };
+    let rows: [Failing<'_>; 3] = [
+        ("read 17\n", first, "", "flicker: read fault\n", 3),
+        ("read 17\nread 1", second, ones, "flicker: read fault\n", 3),
+        ("read 17\n", silent, "", "", 4),
     ];
-    for (script, piece, faults, out, err, status) in rows {
-        let written = call(&rt, &["run"], script.as_bytes(), piece, faults)?;
-        assert_eq!(rt; written.out.contents(), out.as_bytes(), "out of {script:?}");
-        assert_eq!(rt; written.err.contents(), err.as_bytes(), "err of {script:?}");
-        assert_eq!(rt; written.status, status, "status of {script:?}");
+    for (script, faults, out, err, status) in rows {
+        let written = call(&rt, &["run"], script.as_bytes(), 14, faults)?;
+        as_told(&rt, &written, out, err, status);
+    }
+    Ok(())
+}
+
+#[test]
+fn writes_that_fail(rt: HostRuntime) -> Result<(), Fail> {
+    let ones = "1 ok x:ffffffffffffffffffffffffffffffffffffffff\n";
+    let line = Faults { puts: &[0], ..NONE };
+    let message = Faults {
+        messages: &[0],
+        ..NONE
+    };
+    let both = Faults {
+        messages: &[0],
+        ..line
+    };
+    let rows: [Failing<'_>; 3] = [
+        ("read 17\n", line, "", "flicker: write fault\n", 4),
+        ("read 17\nreed", message, ones, "", 4),
+        ("read 17\n", both, "", "", 4),
+    ];
+    for (script, faults, out, err, status) in rows {
+        let written = call(&rt, &["run"], script.as_bytes(), 14, faults)?;
+        as_told(&rt, &written, out, err, status);
     }
     Ok(())
 }
