@@ -154,6 +154,29 @@ fn reads_that_fail(rt: HostRuntime) -> Result<(), Fail> {
     Ok(())
 }
 
+// Read number n, counted from 0, comes when n bytes were taken: the whole lines among those are done.
+#[test]
+fn reads_that_fail_anywhere(rt: HostRuntime) -> Result<(), Fail> {
+    let script = "extend 0 x:\nread 99\nextend 24 x:\n";
+    let rows = [
+        (0, 12, ""),
+        (12, 20, "1 ok\n"),
+        (20, 33, "1 ok\n2 no register\n"),
+        (33, 34, "1 ok\n2 no register\n3 no register\n"),
+    ];
+    for (first, behind, out) in rows {
+        for place in first..behind {
+            let faults = Faults {
+                reads: &[place],
+                ..NONE
+            };
+            let written = call(&rt, &["run"], script.as_bytes(), 1, faults)?;
+            as_told(&rt, &written, out, "flicker: read fault\n", 3);
+        }
+    }
+    Ok(())
+}
+
 #[test]
 fn writes_that_fail(rt: HostRuntime) -> Result<(), Fail> {
     let ones = "1 ok x:ffffffffffffffffffffffffffffffffffffffff\n";
