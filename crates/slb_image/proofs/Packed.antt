@@ -1,0 +1,73 @@
+-- Reading the fields of an image gives back what it says.
+use Rattle.std.proofs.Common.{◌≡◌, ℕ, ◌+◌, ◌<◌, ◌≤◌, ◌^◌, Bool, true, false, eqb, List, [], ◌++◌, length, length-append, refl, ap, ◌∙◌, sym, arith}
+use Rattle.byteorder.specs.Numbers.{little_number-reads_back}
+use Rattle.slb_image.specs.Image.{Image, front, pack, FitsImage, IsImageOf}
+use Rattle.slb_image.specs.Fields.{entry_field, length_field, flags_field, budget_field, image_of}
+use Rattle.slb_image.proofs.Checked.{Passes}
+
+module _ (entry budget : ℕ) (job : Bool) (code : List ℕ) where
+  pub entry_field-pack : entry < 256 ^ 2 → entry_field (pack entry budget job code) ≡ entry
+  unfolding front
+  entry_field-pack h = little_number-reads_back 2 entry [] h
+
+  pub length_field-pack : 32 + length code < 256 ^ 2 → length_field (pack entry budget job code) ≡ 32 + length code
+  unfolding front
+  length_field-pack h = little_number-reads_back 2 (32 + length code) [] h
+
+  pub budget_field-pack : budget < 256 ^ 4 → budget_field (pack entry budget job code) ≡ budget
+  unfolding front
+  budget_field-pack h = little_number-reads_back 4 budget [] h
+
+pub flags_field-pack : (entry budget : ℕ) (job : Bool) (code : List ℕ) → (flags_field (pack entry budget job code) ≤ 1) × (eqb (flags_field (pack entry budget job code)) 1 ≡ job)
+unfolding front
+flags_field-pack entry budget true code = (omega arith, refl)
+flags_field-pack entry budget false code = (omega arith, refl)
+
+pub length-pack : (entry budget : ℕ) (job : Bool) (code : List ℕ) → length (pack entry budget job code) ≡ 32 + length code
+unfolding front
+length-pack entry budget job code = omega (arith, length-append (front entry budget job code) code)
+
+same_image : (entry entry' budget budget' : ℕ) (job job' : Bool) (code : List ℕ) → entry ≡ entry' → budget ≡ budget' → job ≡ job' → ◌≡◌ {A = Image} (record { entry = entry; budget = budget; job = job; code = code }) (record { entry = entry'; budget = budget'; job = job'; code = code })
+same_image entry entry' budget budget' job job' code e b j = rw (e, b, j) refl
+
+-- what an image says is what its fields say
+pub image_of-pack : (entry budget : ℕ) (job : Bool) (code : List ℕ) → FitsImage entry budget code → image_of (pack entry budget job code) ≡ record { entry = entry; budget = budget; job = job; code = code }
+unfolding image_of front
+image_of-pack entry budget job code fits =
+    let inside = fits.inside in
+    let bounded = fits.bounded in
+    let short = fits.short in
+    same_image _ _ _ _ _ _ code
+    (entry_field-pack entry budget job code (omega arith))
+    (budget_field-pack entry budget job code (omega arith))
+    (flags_field-pack entry budget job code).1
+
+-- an image passes the checks
+pub passes-pack : (entry budget : ℕ) (job : Bool) (code : List ℕ) → FitsImage entry budget code → Passes (pack entry budget job code)
+unfolding front
+passes-pack entry budget job code fits =
+    let long = length-pack entry budget job code in
+    let at_length = length_field-pack entry budget job code (let short = fits.short in omega arith) in
+    let at_entry = entry_field-pack entry budget job code (let inside = fits.inside in let short = fits.short in omega arith) in
+    let at_budget = budget_field-pack entry budget job code (let bounded = fits.bounded in omega arith) in
+    record {
+      front = omega arith;
+      some = omega arith;
+      most = omega arith;
+      whole = omega arith;
+      behind = omega arith;
+      inside = omega arith;
+      marked = refl;
+      first = refl;
+      flagged = (flags_field-pack entry budget job code).0;
+      turns = omega arith;
+      bounded = omega arith;
+      zeros = refl;
+    }
+
+-- an image is read as what it is the image of
+pub image_of-image : (image : Image) (bytes : List ℕ) → IsImageOf image bytes → image_of bytes ≡ image
+image_of-image image bytes is = ap image_of is.packed ∙ image_of-pack image.entry image.budget image.job image.code is.fits
+
+pub passes-image : (image : Image) (bytes : List ℕ) → IsImageOf image bytes → Passes bytes
+passes-image image bytes is = rw is.packed (passes-pack image.entry image.budget image.job image.code is.fits)
