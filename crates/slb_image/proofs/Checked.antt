@@ -1,8 +1,8 @@
 -- What it says of bytes that they pass the checks.
-use Rattle.std.proofs.Common.{◌≡◌, ℕ, ◌+◌, ◌<◌, ◌≤◌, Bool, true, false, cond, eqb, leb, ltb, ◌&&◌, List, length, replicate, Option, Some, None, refl, arith}
+use Rattle.std.proofs.Common.{◌≡◌, ℕ, zero, suc, ◌+◌, ◌<◌, ◌≤◌, Bool, true, false, cond, eqb, leb, ltb, ◌&&◌, ◌||◌, inl, inr, List, length, replicate, Option, Some, None, refl, arith}
 use Rattle.std.specs.Prelude.{codes, bytes_eq}
 use Rattle.std.specs.Int.{is_in_range}
-use Rattle.std.proofs.lemmas.Bool.{and_parts, and_from, leb-true, le-leb, ltb-true, lt-ltb, eqb-true, eq-eqb}
+use Rattle.std.proofs.lemmas.Bool.{and_parts, or_cases, leb-true, le-leb, ltb-true, lt-ltb, eqb-true, eq-eqb}
 use Rattle.std.proofs.lemmas.Slice.Eq.{bytes_eq-Decides}
 use Rattle.slb_image.specs.declared.fault.ImageFault.{ImageFault}
 use Rattle.slb_image.specs.Fields.{entry_field, length_field, mark_field, version_field, flags_field, budget_field, reserved_field}
@@ -24,9 +24,20 @@ pub record Passes (bytes : List ℕ) : Type 0 where
   pub zeros : reserved_field bytes ≡ replicate 16 0
 
 -- no check failed: neither the first nor one behind it
-passed : (test : Bool) (behind : Option ImageFault) (fault : ImageFault) → cond test behind (Some fault) ≡ None → (test ≡ true) × (behind ≡ None)
+pub passed : (test : Bool) (behind : Option ImageFault) (fault : ImageFault) → cond test behind (Some fault) ≡ None → (test ≡ true) × (behind ≡ None)
 passed true behind fault e = (refl, e)
 passed false behind fault e = absurd (cc)
+
+job_or_not : (n : ℕ) → (eqb n 0 || eqb n 1) ≡ true → n ≤ 1
+job_or_not n e = elim (or_cases (eqb n 0) (eqb n 1) e) [
+  | inl none ↦ omega (arith, eqb-true n 0 none)
+  | inr one ↦ omega (arith, eqb-true n 1 one)
+]
+
+flags_of_job : (n : ℕ) → n ≤ 1 → (eqb n 0 || eqb n 1) ≡ true
+flags_of_job zero h = refl
+flags_of_job (suc zero) h = refl
+flags_of_job (suc (suc n)) h = absurd (omega arith)
 
 -- bytes without a fault pass
 pub passes : (bytes : List ℕ) → image_fault bytes ≡ None → Passes bytes
@@ -53,7 +64,7 @@ passes bytes e =
       inside = ltb-true _ _ entries.1;
       marked = (bytes_eq-Decides _ _).0 mark.0;
       first = eqb-true _ _ version.0;
-      flagged = leb-true _ _ flags.0;
+      flagged = job_or_not _ flags.0;
       turns = leb-true _ _ turns.0;
       bounded = leb-true _ _ turns.1;
       zeros = (bytes_eq-Decides _ _).0 reserved.0;
@@ -71,7 +82,7 @@ faultless bytes p =
     let inside : ltb (entry_field bytes) (length_field bytes) ≡ true = lt-ltb _ _ p.inside in
     let mark : bytes_eq (mark_field bytes) (codes "FLKC") ≡ true = (bytes_eq-Decides _ _).1 p.marked in
     let version : eqb (version_field bytes) 1 ≡ true = eq-eqb _ _ p.first in
-    let flags : leb (flags_field bytes) 1 ≡ true = le-leb _ _ p.flagged in
+    let flags : (eqb (flags_field bytes) 0 || eqb (flags_field bytes) 1) ≡ true = flags_of_job _ p.flagged in
     let turns : leb 1 (budget_field bytes) ≡ true = le-leb _ _ p.turns in
     let bounded : leb (budget_field bytes) 1000000 ≡ true = le-leb _ _ p.bounded in
     let reserved : bytes_eq (reserved_field bytes) (replicate 16 0) ≡ true = (bytes_eq-Decides _ _).1 p.zeros in

@@ -34,9 +34,9 @@ same_image entry entry' budget budget' job job' code e b j = rw (e, b, j) refl
 pub image_of-pack : (entry budget : ℕ) (job : Bool) (code : List ℕ) → FitsImage entry budget code → image_of (pack entry budget job code) ≡ record { entry = entry; budget = budget; job = job; code = code }
 unfolding image_of front
 image_of-pack entry budget job code fits =
-    let inside = fits.inside in
-    let bounded = fits.bounded in
-    let short = fits.short in
+    let inside = fits.entry_inside.1 in
+    let bounded = fits.budget_range.1 in
+    let short = fits.code_length.1 in
     same_image _ _ _ _ _ _ code
     (entry_field-pack entry budget job code (omega arith))
     (budget_field-pack entry budget job code (omega arith))
@@ -47,9 +47,9 @@ pub passes-pack : (entry budget : ℕ) (job : Bool) (code : List ℕ) → FitsIm
 unfolding front
 passes-pack entry budget job code fits =
     let long = length-pack entry budget job code in
-    let at_length = length_field-pack entry budget job code (let short = fits.short in omega arith) in
-    let at_entry = entry_field-pack entry budget job code (let inside = fits.inside in let short = fits.short in omega arith) in
-    let at_budget = budget_field-pack entry budget job code (let bounded = fits.bounded in omega arith) in
+    let at_length = length_field-pack entry budget job code (let short = fits.code_length.1 in omega arith) in
+    let at_entry = entry_field-pack entry budget job code (let inside = fits.entry_inside.1 in let short = fits.code_length.1 in omega arith) in
+    let at_budget = budget_field-pack entry budget job code (let bounded = fits.budget_range.1 in omega arith) in
     record {
       front = omega arith;
       some = omega arith;
@@ -71,3 +71,7 @@ image_of-image image bytes is = ap image_of is.packed ∙ image_of-pack image.en
 
 pub passes-image : (image : Image) (bytes : List ℕ) → IsImageOf image bytes → Passes bytes
 passes-image image bytes is = rw is.packed (passes-pack image.entry image.budget image.job image.code is.fits)
+
+-- an image has its front
+pub image_has_front : (bytes : List ℕ) → IsImageOf (image_of bytes) bytes → 32 ≤ length bytes
+image_has_front bytes is = (passes-image (image_of bytes) bytes is).front

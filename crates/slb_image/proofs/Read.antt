@@ -78,22 +78,23 @@ read bytes small p =
     let behind = length-drop 32 bytes in
     record {
       fits = record {
-        bytes = λ k d h. (
-      let inside : 32 + k < length bytes = omega arith in
-      rw (get_or-drop 32 bytes k d, get_or_default bytes (32 + k) d 0 inside) (small (32 + k)));
-        some = (let some = p.some in omega arith);
-        short = (let most = p.most in omega arith);
-        behind = p.behind;
-        inside = (let inside = p.inside in omega arith);
-        turns = p.turns;
-        bounded = p.bounded;
+        code_bytes = λ k d h. (
+            let inside : 32 + k < length bytes = omega arith in
+            rw (get_or-drop 32 bytes k d, get_or_default bytes (32 + k) d 0 inside) (small (32 + k)));
+        code_length = ((let some = p.some in omega arith), (let most = p.most in omega arith));
+        entry_inside = (p.behind, (let inside = p.inside in omega arith));
+        budget_range = (p.turns, p.bounded);
       };
       packed = sym (joined bytes (little_bytes 2 (entry_field bytes)) (little_bytes 2 (32 + length (drop 32 bytes))) (codes "FLKC") (little_bytes 2 1) (little_bytes 2 (flags (eqb (flags_field bytes) 1))) (little_bytes 4 (budget_field bytes)) (replicate 16 0)
-      (little_bytes-two bytes 0 small (omega arith))
-      ((let e : 32 + length (drop 32 bytes) ≡ length_field bytes = omega arith in ap (little_bytes 2) e) ∙ little_bytes-two bytes 2 small (omega arith))
-      (sym p.marked)
-      (ap (little_bytes 2) (sym p.first) ∙ little_bytes-two bytes 8 small (omega arith))
-      (ap (little_bytes 2) (flags-read (flags_field bytes) p.flagged) ∙ little_bytes-two bytes 10 small (omega arith))
-      (little_bytes-four bytes 12 small (omega arith))
-      (sym p.zeros));
+          (little_bytes-two bytes 0 small (omega arith))
+          ((let e : 32 + length (drop 32 bytes) ≡ length_field bytes = omega arith in ap (little_bytes 2) e) ∙ little_bytes-two bytes 2 small (omega arith))
+          (sym p.marked)
+          (ap (little_bytes 2) (sym p.first) ∙ little_bytes-two bytes 8 small (omega arith))
+          (ap (little_bytes 2) (flags-read (flags_field bytes) p.flagged) ∙ little_bytes-two bytes 10 small (omega arith))
+          (little_bytes-four bytes 12 small (omega arith))
+          (sym p.zeros));
     }
+
+-- bytes without a fault are the image of what their fields say
+pub image-read : (bytes : List ℕ) → ((i : ℕ) → get_or bytes i 0 < 256) → image_fault bytes ≡ None → IsImageOf (image_of bytes) bytes
+image-read bytes small none = read bytes small (passes bytes none)

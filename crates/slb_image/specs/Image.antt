@@ -1,16 +1,17 @@
 -- The form of an image: a front of 32 bytes, whose numbers have their lowest byte first, and the code.
 use Rattle.std.specs.Prelude.{◌≡◌, ℕ, ◌+◌, ◌<◌, ◌≤◌, Bool, true, false, List, [], ◌∷◌, ◌++◌, length, replicate, codes, All}
 use Rattle.std.specs.List.{concat}
+use Rattle.std.specs.Int.{IsInRange}
 use Rattle.byteorder.specs.Endian.{little_bytes}
 
--- what an image says: where its code is entered, how many turns it may take, whether it is a job, and the code
+-- what an image says: where its code is entered, how many turns it may take, whether it is a job's, and the code
 pub record Image : Type 0 where
   pub entry : ℕ
   pub budget : ℕ
   pub job : Bool
   pub code : List ℕ
 
--- the flags: bit 0 marks a job
+-- the flags: bit 0 marks a job's image
 abbrev pub flags : Bool → ℕ
 flags false = 0
 flags true = 1
@@ -31,21 +32,18 @@ front entry budget job code =
 abbrev pub pack : ℕ → ℕ → Bool → List ℕ → List ℕ
 pack entry budget job code = front entry budget job code ++ code
 
--- the values that have an image: it is entered behind the front
+-- the values that have an image: the code is entered somewhere behind the front
 pub record FitsImage (entry budget : ℕ) (code : List ℕ) : Type 0 where
-  pub bytes : All (λ byte. byte < 256) code
-  pub some : 1 ≤ length code
-  pub short : length code ≤ 49120
-  pub behind : 32 ≤ entry
-  pub inside : entry < 32 + length code
-  pub turns : 1 ≤ budget
-  pub bounded : budget ≤ 1000000
+  pub code_bytes : All (λ byte. byte < 256) code
+  pub code_length : IsInRange 1 49120 (length code)
+  pub entry_inside : (32 ≤ entry) × (entry < 32 + length code)
+  pub budget_range : IsInRange 1 1000000 budget
 
--- bytes are the image of what it says
+-- the bytes are the image that says this
 pub record IsImageOf (image : Image) (bytes : List ℕ) : Type 0 where
   pub fits : FitsImage image.entry image.budget image.code
   pub packed : bytes ≡ pack image.entry image.budget image.job image.code
 
--- bytes are an image
+-- the bytes are an image
 abbrev pub IsImage : List ℕ → Type 0
 IsImage bytes = (image : Image) × IsImageOf image bytes

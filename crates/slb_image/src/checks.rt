@@ -1,12 +1,41 @@
-//! The checks of bytes and of values, in the order of their numbers.
-ghost use Rattle.std.specs.Prelude.{◌≡◌, None};
+//! The checks of bytes and of values, in the order of the faults' numbers.
+ghost use Rattle.std.specs.Prelude.{◌≡◌, ◌&&◌, nat_le, nat_lt, None};
+ghost use Rattle.std.specs.Int.{is_in_range};
 ghost use Rattle.slb_image.specs.Image.{FitsImage};
 ghost use Rattle.slb_image.specs.Faults.{image_fault, build_fault};
 
 use crate::fault::ImageFault;
 use crate::fields::{FRONT_LEN, budget_in, entry_in, flags_in, length_in, version_in};
 
-/// The first fault of the bytes, if they are no image.
+// Whether an image may have so many bytes.
+fn is_length(length: usize) -> bool
+    ensures { result ≡ is_in_range 33 49152 length }
+{
+    (33..=49_152).contains(&length)
+}
+
+// Whether a code may have so many bytes.
+fn is_code_length(length: usize) -> bool
+    ensures { result ≡ is_in_range 1 49120 length }
+{
+    (1..=49_120).contains(&length)
+}
+
+// Whether an image of this length may be entered here.
+fn is_entry(entry: usize, length: usize) -> bool
+    ensures { result ≡ (nat_le 32 entry && nat_lt entry length) }
+{
+    (FRONT_LEN..length).contains(&entry)
+}
+
+// Whether a code may take so many turns.
+fn is_budget(budget: u32) -> bool
+    ensures { result ≡ is_in_range 1 1000000 budget }
+{
+    (1..=1_000_000).contains(&budget)
+}
+
+// The first fault of the bytes, if they are no image.
 #[tactic(auto, unfolding(crate::specs::Faults::image_fault))]
 pub(crate) fn fault_of_image(bytes: &[u8]) -> Option<ImageFault>
     ensures { result ≡ image_fault bytes.now }
@@ -14,12 +43,11 @@ pub(crate) fn fault_of_image(bytes: &[u8]) -> Option<ImageFault>
     if bytes.len() < FRONT_LEN {
         return Some(ImageFault::Short);
     }
-    let length = length_in(bytes);
-    if length < 33 || 49152 < length || usize::from(length) != bytes.len() {
+    let length = usize::from(length_in(bytes));
+    if !is_length(length) || length != bytes.len() {
         return Some(ImageFault::Length);
     }
-    let entry = entry_in(bytes);
-    if entry < 32 || length <= entry {
+    if !is_entry(usize::from(entry_in(bytes)), length) {
         return Some(ImageFault::Entry);
     }
     if &bytes[4..8] != b"FLKC".as_slice() {
@@ -31,8 +59,7 @@ pub(crate) fn fault_of_image(bytes: &[u8]) -> Option<ImageFault>
     if 1 < flags_in(bytes) {
         return Some(ImageFault::Flags);
     }
-    let budget = budget_in(bytes);
-    if budget < 1 || 1000000 < budget {
+    if !is_budget(budget_in(bytes)) {
         return Some(ImageFault::Budget);
     }
     if &bytes[16..32] != [0; 16].as_slice() {
@@ -41,20 +68,19 @@ pub(crate) fn fault_of_image(bytes: &[u8]) -> Option<ImageFault>
     None
 }
 
-/// The first fault of the values, if they have no image.
+// The first fault of the values, if they have no image.
 #[tactic(auto, unfolding(crate::specs::Faults::build_fault))]
 pub(crate) fn fault_of_values(code: &[u8], entry: u32, budget: u32) -> Option<ImageFault>
     ensures fault { result ≡ build_fault entry budget code.now }
     ensures fits { result ≡ None → FitsImage entry budget code.now }
 {
-    let length = code.len();
-    if length < 1 || 49120 < length {
+    if !is_code_length(code.len()) {
         return Some(ImageFault::Length);
     }
-    if entry < 32 || FRONT_LEN + length <= entry as usize {
+    if !is_entry(entry as usize, FRONT_LEN + code.len()) {
         return Some(ImageFault::Entry);
     }
-    if budget < 1 || 1000000 < budget {
+    if !is_budget(budget) {
         return Some(ImageFault::Budget);
     }
     None

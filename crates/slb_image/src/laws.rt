@@ -1,13 +1,15 @@
 //! The laws of the form.
 ghost use Rattle.std.specs.Prelude.{◌≡◌, ◌↔◌, ℕ, ◌<◌, List, None, All};
-ghost use Rattle.slb_image.specs.Image.{Image, IsImageOf, IsImage};
-ghost use Rattle.slb_image.specs.Faults.{image_fault};
+ghost use Rattle.slb_image.specs.Image.{Image, FitsImage, IsImageOf, IsImage};
+ghost use Rattle.slb_image.specs.Faults.{image_fault, build_fault};
 
-/// The laws of images: an image determines what it says, and bytes are an image exactly where they have no
-/// fault.
+/// The laws of images. An image determines what it says. Bytes are an image exactly where they have no fault,
+/// and values have an image exactly where they have none.
 pub fn image_law()
     ensures determined { (one other : Image) (bytes : List ℕ)
         → IsImageOf one bytes → IsImageOf other bytes → one ≡ other }
     ensures faultless { (bytes : List ℕ) → All (λ byte. byte < 256) bytes
         → ((image_fault bytes ≡ None) ↔ IsImage bytes) }
+    ensures ranges { (entry budget : ℕ) (code : List ℕ) → All (λ byte. byte < 256) code
+        → ((build_fault entry budget code ≡ None) ↔ FitsImage entry budget code) }
 {}

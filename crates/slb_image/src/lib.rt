@@ -7,6 +7,8 @@ mod checks;
 mod fault;
 mod fields;
 mod laws;
+#[cfg(test)]
+mod tests;
 mod viewing;
 
 pub use building::{BuildError, build};

@@ -1,5 +1,5 @@
 //! Bytes seen as an image.
-ghost use Rattle.std.specs.Prelude.{◌≡◌, IfOk, IsOk};
+ghost use Rattle.std.specs.Prelude.{◌≡◌, ◌↔◌, IfOk, IsOk};
 ghost use Rattle.std.specs.Result.{result_err};
 ghost use Rattle.slb_image.specs.Image.{IsImageOf, IsImage};
 ghost use Rattle.slb_image.specs.Faults.{image_fault};
@@ -30,7 +30,7 @@ impl<'a> Model for ImageView<'a> {
 pub fn view(bytes: &[u8]) -> Result<ImageView<'_>, ImageFault>
     ensures image { IfOk result (λ image. IsImageOf image bytes.now) }
     ensures fault { result_err result ≡ image_fault bytes.now }
-    ensures accepts { IsImage bytes.now → IsOk result }
+    ensures accepts { IsOk result ↔ IsImage bytes.now }
 {
     match fault_of_image(bytes) {
         None => Ok(ImageView { bytes }),
@@ -38,6 +38,7 @@ pub fn view(bytes: &[u8]) -> Result<ImageView<'_>, ImageFault>
     }
 }
 
+#[tactic(auto, using(crate::proofs::Packed::image_has_front), unfolding(crate::specs::Fields::image_of))]
 impl ImageView<'_> {
     /// The whole image.
     pub fn all(&self) -> &[u8]

@@ -6,6 +6,7 @@ use Rattle.slb_image.proofs.laws.image_law.Goals as goal
 use Rattle.slb_image.specs.Fields.{image_of}
 use Rattle.slb_image.proofs.Checked.{passes, faultless}
 use Rattle.slb_image.proofs.Packed.{passes-image, image_of-image}
+use Rattle.slb_image.proofs.Ranges.{fits-from_none, none-from_fits}
 use Rattle.slb_image.proofs.Read.{read}
 
 pub returns-clause-determined : goal.returns-clause-determined
@@ -20,3 +21,7 @@ small bytes each i = elim (cases_lt i (length bytes)) [
 pub returns-clause-faultless : goal.returns-clause-faultless
 returns-clause-faultless c bytes each =
     (λ none. (image_of bytes, read bytes (small bytes each) (passes bytes none)), λ is. faultless bytes (passes-image is.0 bytes is.1))
+
+pub returns-clause-ranges : goal.returns-clause-ranges
+returns-clause-ranges c entry budget code each =
+    (fits-from_none entry budget code each, none-from_fits entry budget code)
