@@ -1,7 +1,6 @@
 -- What it says of bytes that they pass the checks.
-use Rattle.std.proofs.Common.{◌≡◌, ℕ, zero, suc, ◌+◌, ◌<◌, ◌≤◌, Bool, true, false, cond, eqb, leb, ltb, ◌&&◌, ◌||◌, inl, inr, List, length, replicate, Option, Some, None, refl, arith}
+use Rattle.std.proofs.Common.{◌≡◌, ℕ, zero, suc, ◌<◌, ◌≤◌, Bool, true, false, cond, eqb, leb, ltb, ◌||◌, inl, inr, List, length, replicate, Option, Some, None, refl, arith}
 use Rattle.std.specs.Prelude.{codes, bytes_eq}
-use Rattle.std.specs.Int.{is_in_range}
 use Rattle.std.proofs.lemmas.Bool.{and_parts, or_cases, leb-true, le-leb, ltb-true, lt-ltb, eqb-true, eq-eqb}
 use Rattle.std.proofs.lemmas.Slice.Eq.{bytes_eq-Decides}
 use Rattle.slb_image.specs.declared.fault.ImageFault.{ImageFault}

@@ -1,5 +1,5 @@
 -- Reading the fields of an image gives back what it says.
-use Rattle.std.proofs.Common.{◌≡◌, ℕ, ◌+◌, ◌<◌, ◌≤◌, ◌^◌, Bool, true, false, eqb, List, [], ◌++◌, length, length-append, refl, ap, ◌∙◌, sym, arith}
+use Rattle.std.proofs.Common.{◌≡◌, ℕ, ◌+◌, ◌<◌, ◌≤◌, ◌^◌, Bool, true, false, eqb, List, [], length, length-append, refl, ap, ◌∙◌, arith}
 use Rattle.byteorder.specs.Numbers.{little_number-reads_back}
 use Rattle.slb_image.specs.Image.{Image, front, pack, FitsImage, IsImageOf}
 use Rattle.slb_image.specs.Fields.{entry_field, length_field, flags_field, budget_field, image_of}

@@ -1,13 +1,13 @@
 -- Bytes that pass the checks are the image of what their fields say.
-use Rattle.std.proofs.Common.{◌≡◌, ℕ, zero, suc, ◌+◌, ◌-◌, ◌<◌, ◌≤◌, ◌^◌, Bool, true, false, eqb, cond, List, [], ◌∷◌, ◌++◌, length, take, drop, get_or, replicate, Option, None, length-append, length-take, length-drop, append_assoc, refl, ap, subst, ◌∙◌, sym, inl, inr, arith}
-use Rattle.std.specs.Prelude.{All, slice_range, codes}
+use Rattle.std.proofs.Common.{◌≡◌, ℕ, zero, suc, ◌+◌, ◌-◌, ◌<◌, ◌≤◌, eqb, List, [], ◌∷◌, ◌++◌, length, take, drop, get_or, replicate, None, length-take, length-drop, append_assoc, refl, ap, ◌∙◌, sym, inl, inr, arith}
+use Rattle.std.specs.Prelude.{slice_range, codes}
 use Rattle.std.specs.List.{concat}
 use Rattle.std.proofs.lemmas.List.{append-nil, take-append-drop, drop-drop, get_or-take, get_or-drop, get_or_past, get_or_default}
 use Rattle.std.proofs.lemmas.Nat.{le_bytes_2, le_bytes_4}
 use Rattle.std.proofs.lemmas.Bool.{cases_lt}
 use Rattle.byteorder.specs.Endian.{little_bytes, little_from}
-use Rattle.slb_image.specs.Image.{Image, flags, front, pack, FitsImage, IsImageOf}
-use Rattle.slb_image.specs.Fields.{entry_field, length_field, mark_field, version_field, flags_field, budget_field, reserved_field, image_of}
+use Rattle.slb_image.specs.Image.{flags, front, IsImageOf}
+use Rattle.slb_image.specs.Fields.{entry_field, length_field, flags_field, budget_field, image_of}
 use Rattle.slb_image.specs.Faults.{image_fault}
 use Rattle.slb_image.proofs.Checked.{Passes, passes}
 

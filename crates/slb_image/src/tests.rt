@@ -62,6 +62,20 @@ fn limits(rt: HostRuntime) -> Result<(), Fail> {
     Ok(())
 }
 
+// An image of one byte more than the longest, with its length field.
+#[test]
+fn longer_than_the_longest(rt: HostRuntime) -> Result<(), Fail> {
+    let mut bytes = vec![in rt.alloc(); 0; 49_153]?;
+    for (byte, from) in bytes.iter_mut().zip(&IMAGE) {
+        *byte = *from;
+    }
+    for (byte, from) in bytes.iter_mut().skip(2).zip(b"\x01\xc0") {
+        *byte = *from;
+    }
+    assert_eq!(rt; view(bytes.as_slice()).err(), Some(ImageFault::Length));
+    Ok(())
+}
+
 #[test]
 fn lends_its_parts(rt: HostRuntime) -> Result<(), Fail> {
     let image = view(&IMAGE).ok().ok_or("no image")?;
