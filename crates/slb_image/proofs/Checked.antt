@@ -27,12 +27,14 @@ pub passed : (test : Bool) (behind : Option ImageFault) (fault : ImageFault) →
 passed true behind fault e = (refl, e)
 passed false behind fault e = absurd (cc)
 
+-- the test of the flags says that they are at most 1
 job_or_not : (n : ℕ) → (eqb n 0 || eqb n 1) ≡ true → n ≤ 1
 job_or_not n e = elim (or_cases (eqb n 0) (eqb n 1) e) [
   | inl none ↦ omega (arith, eqb-true n 0 none)
   | inr one ↦ omega (arith, eqb-true n 1 one)
 ]
 
+-- flags of at most 1 pass the test
 flags_of_job : (n : ℕ) → n ≤ 1 → (eqb n 0 || eqb n 1) ≡ true
 flags_of_job zero h = refl
 flags_of_job (suc zero) h = refl

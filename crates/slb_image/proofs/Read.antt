@@ -46,6 +46,7 @@ part_small bytes offset n small i = elim (cases_lt i n) [
       omega (arith, none)
 ]
 
+-- a part that is there is as long as was asked
 length-part : (bytes : List ℕ) (offset n : ℕ) → offset + n ≤ length bytes → length (take n (drop offset bytes)) ≡ n
 length-part bytes offset n h = omega (arith, length-take n (drop offset bytes), length-drop offset bytes)
 
@@ -56,6 +57,7 @@ little_bytes-two bytes offset small h = le_bytes_2 (take 2 (drop offset bytes)) 
     let high = part_at bytes offset 2 1 (suc offset) (omega arith) (omega arith) in
     omega (arith, low, high))
 
+-- the same for four bytes
 little_bytes-four : (bytes : List ℕ) (offset : ℕ) → ((i : ℕ) → get_or bytes i 0 < 256) → offset + 4 ≤ length bytes → little_bytes 4 (little_from offset 4 bytes) ≡ take 4 (drop offset bytes)
 little_bytes-four bytes offset small h = le_bytes_4 (take 4 (drop offset bytes)) _ (length-part bytes offset 4 h) (part_small bytes offset 4 small)
     (let first = part_at bytes offset 4 0 offset (omega arith) (omega arith) in
@@ -70,6 +72,7 @@ flags-read zero h = refl
 flags-read (suc zero) h = refl
 flags-read (suc (suc n)) h = absurd (omega arith)
 
+-- bytes that pass the checks are the image of what their fields say
 pub read : (bytes : List ℕ) → ((i : ℕ) → get_or bytes i 0 < 256) → Passes bytes → IsImageOf (image_of bytes) bytes
 unfolding image_of front
 read bytes small p =

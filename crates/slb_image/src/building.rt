@@ -47,8 +47,9 @@ fn joined(alloc: Global, front: &[u8; FRONT_LEN], code: &[u8]) -> Result<Bytes, 
     Ok(image)
 }
 
-/// The image of these values. Its code has 1 to 49,120 bytes, is entered at an offset from 32 up to and
-/// without the image's length, and may take 1 to 1,000,000 turns. Without memory there is no image.
+/// The image of these values, by docs/IMAGES.md. The code has 1 to 49,120 bytes (else Length), is entered at an
+/// offset from 32 up to and without the image's length (else Entry), and may take 1 to 1,000,000 turns (else
+/// Budget); the first of these that fails is answered. Where none fails, memory may still be short.
 pub fn build(
     alloc: Global,
     code: &[u8],

@@ -1,6 +1,7 @@
 //! What is wrong with bytes that are no image.
 
-/// Why bytes are no image, or why values have none. The checks are made in the order of these numbers.
+/// Why bytes are no image, or why values have none. Each fault has the number of its row in docs/IMAGES.md, and
+/// the checks are made in this order.
 #[derive(Clone, Copy, Debug, PartialEq, Eq)]
 pub enum ImageFault {
     /// There are fewer than 32 bytes.
