@@ -1,0 +1,4 @@
+pub mod Checked
+pub mod Packed
+pub mod Ranges
+pub mod Read
