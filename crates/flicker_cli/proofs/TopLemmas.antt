@@ -107,14 +107,14 @@ write_run : (end : RunEnd) (old new : Streams) (status : ℕ) (from at : Machine
 write_run Done old new status from at e is = absurd (omega (arith, e.told.0))
 write_run (Bad n bad) old new status from at e is =
     let w = failed_message _ 1 old.err new.err old.err_faults new.err_faults status e.told is (λ f. absurd (omega arith)) in
-    inr (record { end = Ended (Bad n bad); told_some = λ f. absurd (cc); other = λ f. absurd (cc); rose = w.0; left = e.left; told = w.1 })
+    inr (record { end = Ended (Bad n bad); told_some = λ f. absurd (cc); other = λ f. absurd (cc); caused = e.caused; rose = w.0; left = e.left; told = w.1 })
 write_run ReadFault old new status from at e is =
     let w = failed_message _ 3 old.err new.err old.err_faults new.err_faults status e.told is (λ f. absurd (omega arith)) in
-    inr (record { end = Ended ReadFault; told_some = λ f. absurd (cc); other = λ f. absurd (cc); rose = w.0; left = e.left; told = w.1 })
-write_run WriteFault old new status from at e is = inl (record { rose = e.write refl; left = e.left; told = out_told old.err new.err old.err_faults new.err_faults status _ e.told is })
+    inr (record { end = Ended ReadFault; told_some = λ f. absurd (cc); other = λ f. absurd (cc); caused = e.caused; rose = w.0; left = e.left; told = w.1 })
+write_run WriteFault old new status from at e is = inl (record { rose = e.caused.write refl; left = e.left; told = out_told old.err new.err old.err_faults new.err_faults status _ e.told is })
 write_run NoMemory old new status from at e is =
     let w = failed_message _ 5 old.err new.err old.err_faults new.err_faults status e.told is (λ f. absurd (omega arith)) in
-    inr (record { end = Ended NoMemory; told_some = λ f. absurd (cc); other = λ f. absurd (cc); rose = w.0; left = e.left; told = w.1 })
+    inr (record { end = Ended NoMemory; told_some = λ f. absurd (cc); other = λ f. absurd (cc); caused = e.caused; rose = w.0; left = e.left; told = w.1 })
 
 memory_told : (old new : Streams) (m : List ℕ) (status : ℕ) → Tried m 5 old.err new.err old.err_faults new.err_faults status → status ≡ 5 → Appends old.err new.err m ⊎ AppendsFront old.err new.err m
 memory_told old new m status (inl whole) is = inl whole.1
@@ -124,14 +124,15 @@ memory_told old new m status (inr (inr want)) is = inr want.1
 want_run : (end : RunEnd) (old new : Streams) (status : ℕ) (from at : Machine) → Ends (Ended end) old new status from at → status ≡ 5 → AfterWant old new from at
 want_run Done old new status from at e is = absurd (omega (arith, e.told.0))
 want_run (Bad n bad) old new status from at e is =
-    record { end = Ended (Bad n bad); told_some = λ f. absurd (cc); left = e.left; told = inr (want_message _ 1 old.err new.err old.err_faults new.err_faults status e.told is (λ f. absurd (omega arith))) }
+    record { end = Ended (Bad n bad); told_some = λ f. absurd (cc); caused = e.caused; left = e.left; told = inr (want_message _ 1 old.err new.err old.err_faults new.err_faults status e.told is (λ f. absurd (omega arith))) }
 want_run ReadFault old new status from at e is =
-    record { end = Ended ReadFault; told_some = λ f. absurd (cc); left = e.left; told = inr (want_message _ 3 old.err new.err old.err_faults new.err_faults status e.told is (λ f. absurd (omega arith))) }
+    record { end = Ended ReadFault; told_some = λ f. absurd (cc); caused = e.caused; left = e.left; told = inr (want_message _ 3 old.err new.err old.err_faults new.err_faults status e.told is (λ f. absurd (omega arith))) }
 want_run WriteFault old new status from at e is =
-    record { end = Ended WriteFault; told_some = λ f. absurd (cc); left = e.left; told = inr (want_message _ 4 old.err new.err old.err_faults new.err_faults status e.told is (λ f. absurd (omega arith))) }
+    record { end = Ended WriteFault; told_some = λ f. absurd (cc); caused = e.caused; left = e.left; told = inr (want_message _ 4 old.err new.err old.err_faults new.err_faults status e.told is (λ f. absurd (omega arith))) }
 want_run NoMemory old new status from at e is = record {
   end = Ended NoMemory;
   told_some = λ f. absurd (cc);
+  caused = e.caused;
   left = e.left;
   told = elim (memory_told old new (end_message (Ended NoMemory)) status e.told is) [ inl whole ↦ inl (refl, whole) | inr front ↦ inr front ];
 }
@@ -157,9 +158,9 @@ answered_usage old new status from at e =
       read_fault = λ is. absurd (omega arith);
       write_fault = λ is.
           let w = failed_message _ 2 old.err new.err old.err_faults new.err_faults status e.told is (λ f. absurd (omega arith)) in
-          inr (record { end = Usage; told_some = λ f. absurd (cc); other = λ f. absurd (cc); rose = w.0; left = e.left; told = w.1 });
+          inr (record { end = Usage; told_some = λ f. absurd (cc); other = λ f. absurd (cc); caused = e.caused; rose = w.0; left = e.left; told = w.1 });
       no_memory = λ is.
-          record { end = Usage; told_some = λ f. absurd (cc); left = e.left; told = inr (want_message _ 2 old.err new.err old.err_faults new.err_faults status e.told is (λ f. absurd (omega arith))) };
+          record { end = Usage; told_some = λ f. absurd (cc); caused = e.caused; left = e.left; told = inr (want_message _ 2 old.err new.err old.err_faults new.err_faults status e.told is (λ f. absurd (omega arith))) };
     }
 
 -- ---- causes
@@ -180,10 +181,10 @@ causes_run (Bad n bad) old new status from at e =
     record { known = omega arith; not_usage = λ f. omega arith; read = λ f. absurd (omega arith); write = λ f. inr (err_rose _ 1 old.err new.err old.err_faults new.err_faults status e.told f (λ g. absurd (omega arith))) }
 causes_run ReadFault old new status from at e =
     let s = tried_status _ 3 old.err new.err old.err_faults new.err_faults status e.told in
-    record { known = omega arith; not_usage = λ f. omega arith; read = λ f. e.read refl; write = λ f. inr (err_rose _ 3 old.err new.err old.err_faults new.err_faults status e.told f (λ g. absurd (omega arith))) }
+    record { known = omega arith; not_usage = λ f. omega arith; read = λ f. e.caused.read refl; write = λ f. inr (err_rose _ 3 old.err new.err old.err_faults new.err_faults status e.told f (λ g. absurd (omega arith))) }
 causes_run WriteFault old new status from at e =
     let s = tried_status _ 4 old.err new.err old.err_faults new.err_faults status e.told in
-    record { known = omega arith; not_usage = λ f. omega arith; read = λ f. absurd (omega arith); write = λ f. inl (e.write refl) }
+    record { known = omega arith; not_usage = λ f. omega arith; read = λ f. absurd (omega arith); write = λ f. inl (e.caused.write refl) }
 causes_run NoMemory old new status from at e =
     let s = tried_status _ 5 old.err new.err old.err_faults new.err_faults status e.told in
     record { known = omega arith; not_usage = λ f. omega arith; read = λ f. absurd (omega arith); write = λ f. inr (err_rose _ 5 old.err new.err old.err_faults new.err_faults status e.told f (λ g. absurd (omega arith))) }
@@ -205,8 +206,8 @@ pub complete_run : (end : RunEnd) (content : List ℕ) (old new : Streams) (stat
     → (status ≡ 0) ⊎ (status ≡ 5) ⊎ Rose old.source_faults new.source_faults ⊎ Rose old.out_faults new.out_faults ⊎ Rose old.err_faults new.err_faults
 complete_run Done content old new status from at e same good = inl e.told.0
 complete_run (Bad n bad) content old new status from at e same good = absurd (bad_script content old.source new.source old.out new.out from at (n, bad) same good e.left)
-complete_run ReadFault content old new status from at e same good = inr (inr (inl (e.read refl)))
-complete_run WriteFault content old new status from at e same good = inr (inr (inr (inl (e.write refl))))
+complete_run ReadFault content old new status from at e same good = inr (inr (inl (e.caused.read refl)))
+complete_run WriteFault content old new status from at e same good = inr (inr (inr (inl (e.caused.write refl))))
 complete_run NoMemory content old new status from at e same good = elim (tried_status _ 5 old.err new.err old.err_faults new.err_faults status e.told) [
   | inl five ↦ inr (inl five)
   | inr other ↦ elim other [

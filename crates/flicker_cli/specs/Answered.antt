@@ -84,6 +84,11 @@ abbrev pub Left : CallEnd → Streams → Streams → Machine → Machine → Ty
 Left Usage old new from at = Untouched old new from at
 Left (Ended end) old new from at = Ran end old.source new.source old.out new.out from at
 
+-- a fault that this end names was counted in the call
+pub record IsCaused (end : CallEnd) (old new : Streams) : Type 0 where
+  pub read : end ≡ Ended ReadFault → Rose old.source_faults new.source_faults
+  pub write : end ≡ Ended WriteFault → Rose old.out_faults new.out_faults
+
 -- ---- status 3: a read failed
 
 -- the whole lines taken are good, done and written, and err has the message
@@ -104,6 +109,7 @@ pub record ErrFailed (old new : Streams) (from at : Machine) : Type 0 where
   pub end : CallEnd
   pub told_some : end ≢ Ended Done
   pub other : end ≢ Ended WriteFault
+  pub caused : IsCaused end old new
   pub rose : Rose old.err_faults new.err_faults
   pub left : Left end old new from at
   pub told : AppendsFront old.err new.err (end_message end)
@@ -117,6 +123,7 @@ AfterWriteFault old new from at = OutFailed old new from at ⊎ ErrFailed old ne
 pub record AfterWant (old new : Streams) (from at : Machine) : Type 0 where
   pub end : CallEnd
   pub told_some : end ≢ Ended Done
+  pub caused : IsCaused end old new
   pub left : Left end old new from at
   pub told : ((end ≡ Ended NoMemory) × Appends old.err new.err no_memory_message) ⊎ AppendsFront old.err new.err (end_message end)
 

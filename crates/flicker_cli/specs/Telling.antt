@@ -5,7 +5,7 @@ use Rattle.flk_base.specs.Causes.{Rose}
 use Rattle.flk_base.specs.Told.{AppendsFront}
 use Rattle.flk_run.specs.declared.run.RunEnd.TheVariants.{Done, Bad, ReadFault, WriteFault, NoMemory}
 use Rattle.flk_run.specs.Parts.{Machine}
-use Rattle.flicker_cli.specs.Answered.{Streams, CallEnd, Usage, Ended, end_message, Left}
+use Rattle.flicker_cli.specs.Answered.{Streams, CallEnd, Usage, Ended, end_message, IsCaused, Left}
 
 -- the message was written, and the status is this one; or its put failed, and it is 4; or memory ran out
 -- for it, and it is 5
@@ -28,5 +28,4 @@ Told Usage err err' before now status = Tried (end_message Usage) 2 err err' bef
 pub record Ends (end : CallEnd) (old new : Streams) (status : ℕ) (from at : Machine) : Type 0 where
   pub left : Left end old new from at
   pub told : Told end old.err new.err old.err_faults new.err_faults status
-  pub read : end ≡ Ended ReadFault → Rose old.source_faults new.source_faults
-  pub write : end ≡ Ended WriteFault → Rose old.out_faults new.out_faults
+  pub caused : IsCaused end old new

@@ -9,8 +9,7 @@ returns-in-None-clause-answered g c =
     (answered_usage _ _ c.say-status.result _ _ (record {
       left = record { unread = refl; unwritten = refl; kept = refl };
       told = c.say-status.ensures.tried;
-      read = λ f. absurd (cc);
-      write = λ f. absurd (cc);
+      caused = record { read = λ f. absurd (cc); write = λ f. absurd (cc) };
     }))
 
 pub returns-in-Some-Run-clause-answered : goal.returns-in-Some-Run-clause-answered
