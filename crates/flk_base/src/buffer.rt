@@ -54,6 +54,7 @@ impl Bytes {
     pub fn reserve(&mut self, more: usize) -> Result<(), NoMemory>
         ensures bytes { self.new.bytes ≡ self.old.bytes }
         ensures room { OnOk result (more ≤ self.new.spare) }
+        ensures err_room { OnErr result (self.new.spare ≡ self.old.spare) }
         ensures ample { more ≤ self.old.spare → IsOk result × (self.new ≡ self.old) }
     {
         if self.items.capacity() - self.items.len() >= more {
@@ -78,6 +79,7 @@ impl Bytes {
     pub fn push_all(&mut self, bytes: &[u8]) -> Result<(), NoMemory>
         ensures ok { OnOk result (self.new.bytes ≡ self.old.bytes ++ bytes.now) }
         ensures err { OnErr result (self.new.bytes ≡ self.old.bytes) }
+        ensures err_room { OnErr result (self.new.spare ≡ self.old.spare) }
         ensures ample { length bytes.now ≤ self.old.spare
             → IsOk result × (self.new.spare + length bytes.now ≡ self.old.spare) }
     {

@@ -1,5 +1,5 @@
 // The trusted edge: std's reader and writer, with a count of their faults.
-ghost use Rattle.std.specs.Prelude.{◌≡◌, ◌≢◌, ◌≤◌, Err, OnOk, OnErr};
+ghost use Rattle.std.specs.Prelude.{◌≡◌, ◌≢◌, ◌≤◌, [], Err, IsOk, OnOk, OnErr};
 ghost use Rattle.std.specs.Io.{ReadsAtMost};
 ghost use Rattle.std.specs.Io.KnownBytes.{ReadConsumes, Appends};
 ghost use Rattle.flk_base.specs.Causes.{HasCause, Rose, counted};
@@ -50,6 +50,9 @@ impl<R: Read> Source for StdSource<R> {
         // Beside what the trait says: each error counts as one fault, and nothing else counts.
         ensures raised { OnErr result (self.new.faults ≡ counted self.old.faults) }
         ensures stays { OnOk result (self.new.faults ≡ self.old.faults) }
+        // What the reader itself tells is passed on, also after a fault.
+        ensures inner { ReadConsumes (R.remaining self.old.inner)
+            (R.remaining self.new.inner) result buf.new }
     {
         match self.inner.read(buf) {
             Ok(count) => Ok(count),
@@ -109,6 +112,13 @@ impl<W: Write> Sink for StdSink<W> {
         ensures no_want { result ≢ Err PutFault.NoMemory }
         ensures raised { OnErr result (self.new.faults ≡ counted self.old.faults) }
         ensures stays { OnOk result (self.new.faults ≡ self.old.faults) }
+        // What the writer itself tells grows by the piece, or by a front of it, also after a fault.
+        ensures inner_ok { OnOk result
+            (Appends (W.contents self.old.inner) (W.contents self.new.inner) piece.now) }
+        ensures inner_err { OnErr result
+            (AppendsFront (W.contents self.old.inner) (W.contents self.new.inner) piece.now) }
+        // A piece without bytes is no fault.
+        ensures empty { piece.now ≡ [] → IsOk result }
     {
         let mut rest = piece;
         while !rest.is_empty() {

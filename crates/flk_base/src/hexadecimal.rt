@@ -50,6 +50,7 @@ fn fault_of(error: FromHexError) -> HexFault
 pub fn print_hex(out: &mut Bytes, bytes: &[u8]) -> Result<(), NoMemory>
     ensures ok { OnOk result (out.new.bytes ≡ out.old.bytes ++ encode_lower bytes.now) }
     ensures err { OnErr result (out.new.bytes ≡ out.old.bytes) }
+    ensures err_room { OnErr result (out.new.spare ≡ out.old.spare) }
     ensures ample { 2 * length bytes.now ≤ out.old.spare
         → IsOk result × (out.new.spare + 2 * length bytes.now ≡ out.old.spare) }
 {
