@@ -1,3 +1,4 @@
+pub mod FrameSpans
 pub mod Frames
 pub mod HeldSpans
 pub mod MarkLemmas

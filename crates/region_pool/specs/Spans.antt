@@ -1,5 +1,5 @@
 -- Spans of frames, and what it means that a pool holds one.
-use Rattle.std.specs.Prelude.{◌≡◌, ◌≢◌, ◌⊎◌, ℕ, ◌+◌, ◌-◌, ◌≤◌, List, ◌∷◌, ◌++◌, take, drop, replicate, slice_get, Some}
+use Rattle.std.specs.Prelude.{◌≡◌, ◌≢◌, ◌⊎◌, ℕ, ◌+◌, ◌-◌, ◌<◌, ◌≤◌, List, ◌∷◌, ◌++◌, take, drop, replicate, slice_get, Some}
 use Rattle.region_pool.specs.declared.mark.Mark.{Mark}
 use Rattle.region_pool.specs.declared.mark.Mark.TheVariants as mark
 use Rattle.region_pool.specs.declared.ticket.Purpose.{Purpose}
@@ -49,3 +49,23 @@ with_span marks span = replaced marks span.first span.frames (marks_of span)
 -- the marks once the span is given back
 abbrev pub without_span : List Mark → Span → List Mark
 without_span marks span = replaced marks span.first span.frames (replicate span.frames mark.Free)
+
+-- the frame is one of the span's
+pub record HasFrame (span : Span) (frame : ℕ) : Type 0 where
+  pub begun : span.first ≤ frame
+  pub unended : frame < end_of span
+
+-- the frame lies in a span that the pool holds: it has so many frames from `first` on
+pub record IsSpanAt (marks : List Mark) (frame first frames : ℕ) : Type 0 where
+  pub span : Span
+  pub held : Holds marks span
+  pub inside : HasFrame span frame
+  pub begins : span.first ≡ first
+  pub long : span.frames ≡ frames
+
+-- the frame lies in one span that the pool holds, and in no other
+pub record LiesInOneSpan (marks : List Mark) (frame : ℕ) : Type 0 where
+  pub span : Span
+  pub held : Holds marks span
+  pub inside : HasFrame span frame
+  pub only : (other : Span) → Holds marks other → HasFrame other frame → other ≡ span

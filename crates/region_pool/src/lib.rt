@@ -2,6 +2,7 @@
 //! that has to be spent by giving the span back.
 #![tactic(auto)]
 
+mod extent;
 mod mark;
 mod place;
 mod pool;
@@ -9,7 +10,7 @@ mod ticket;
 
 pub use mark::Mark;
 pub use place::place_law;
-pub use pool::{NoMemory, NoRoom, Pool, held_spans_law};
+pub use pool::{NoMemory, NoRoom, Pool, frame_span_law, held_spans_law};
 pub use ticket::{Purpose, Ticket};
 
 #[cfg(test)]

@@ -1,5 +1,5 @@
 //! What the pool knows of one frame.
-ghost use Rattle.std.specs.Prelude.{◌≡◌};
+ghost use Rattle.std.specs.Prelude.{◌≡◌, ◌↔◌, IsTrue};
 ghost use Rattle.region_pool.specs.Marks.{is_free};
 
 /// The mark of a frame. The marks of a pool determine its spans: a span is its first frame and the
@@ -20,4 +20,10 @@ pub(crate) fn is_free(mark: Mark) -> bool
     ensures { result ≡ is_free mark }
 {
     matches!(mark, Mark::Free)
+}
+
+pub(crate) fn is_next(mark: Mark) -> bool
+    ensures { IsTrue result ↔ (mark ≡ Mark.Next) }
+{
+    matches!(mark, Mark::Next)
 }

@@ -1,9 +1,10 @@
 //! The pool: it takes spans and gives them back.
-ghost use Rattle.std.specs.Prelude.{◌≡◌, ◌≢◌, ℕ, ◌<◌, ◌≤◌, ◌+◌, ◌-◌, ◌∷◌, ◌^◌, ◌↔◌, ◌⊎◌, List, length, vec_len, replicate, IsTrue, IsErr, IfOk, OnOk, OnErr};
+ghost use Rattle.std.specs.Prelude.{◌≡◌, ◌≢◌, ℕ, ◌<◌, ◌≤◌, ◌+◌, ◌-◌, ◌∷◌, ◌^◌, ◌↔◌, ◌⊎◌, List, length, vec_len, replicate, IsTrue, IsErr, IfOk, IfSome, IfNone, OnOk, OnErr};
 ghost use Rattle.region_pool.specs.Marks.{IsTaken, taken_count};
 ghost use Rattle.region_pool.specs.Places.{IsLowestPlace, HasNoPlace};
-ghost use Rattle.region_pool.specs.Spans.{Span, Holds, first_mark, IsDisjoint, replaced, with_span, without_span};
+ghost use Rattle.region_pool.specs.Spans.{Span, Holds, IsSpanAt, LiesInOneSpan, first_mark, IsDisjoint, replaced, with_span, without_span};
 
+use crate::extent::{end_of_span, first_of_span};
 use crate::mark::{Mark, is_free};
 use crate::place::lowest_place;
 use crate::ticket::{Purpose, Ticket};
@@ -143,6 +144,19 @@ impl Pool {
             None => false,
         }
     }
+
+    /// The first frame and the number of frames of the span that the frame lies in, if it is taken.
+    pub fn span_at(&self, frame: u32) -> Option<(u32, u32)>
+        ensures found { IfSome result (λ found. IsSpanAt self.now frame found.0 found.1) }
+        ensures none { IfNone result (¬ IsTaken self.now frame) }
+    {
+        if !self.is_taken(frame) {
+            return None;
+        }
+        let first = first_of_span(&self.marks, frame as usize);
+        let end = end_of_span(&self.marks, frame as usize);
+        Some((first as u32, (end - first) as u32))
+    }
 }
 
 /// The law of held spans: two spans that one pool holds are the same, or have no frame in common.
@@ -151,3 +165,11 @@ pub fn held_spans_law(pool: &Pool, one: &Ticket, other: &Ticket)
     requires other { Holds pool.now other.now }
     ensures { (one.now ≡ other.now) ⊎ IsDisjoint one.now other.now }
 {}
+
+/// The law of taken frames: each lies in one span that the pool holds, and in no other.
+pub fn frame_span_law(pool: &Pool, frame: u32)
+    requires { IsTaken pool.now frame }
+    ensures { LiesInOneSpan pool.now frame }
+{
+    let _ = pool.span_at(frame);
+}
