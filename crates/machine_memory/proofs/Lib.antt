@@ -1,0 +1,7 @@
+pub mod DeviceLemmas
+pub mod DmaLemmas
+pub mod MemoryLemmas
+pub mod PartLent
+pub mod Pieces
+pub mod SizeLemmas
+pub mod SpanLemmas

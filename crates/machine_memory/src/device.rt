@@ -1,0 +1,38 @@
+//! What devices may write.
+ghost use Rattle.std.specs.Prelude.{◌≡◌, ◌^◌, ◌<◌, length, not};
+ghost use Rattle.std.specs.List.{list_all};
+ghost use Rattle.machine_memory.specs.DeviceWrites.{may_write};
+
+/// How a device's write ended.
+#[derive(Clone, Copy, Debug, PartialEq, Eq)]
+pub enum DevEnd {
+    /// Its bytes are written.
+    Done,
+    /// Some byte of it is past memory or in an excluded frame, and nothing is written.
+    Blocked,
+}
+
+/// Whether none of the bits is set.
+fn none_set(bits: &[bool]) -> bool
+    ensures { result ≡ list_all (λ bit. not bit) bits.now }
+{
+    bits.iter().all(|bit| !*bit)
+}
+
+/// Whether a device may write so many bytes from a place on.
+pub(crate) fn may_write(excluded: &[bool], at: u32, count: usize) -> bool
+    requires { length excluded.now < 2 ^ 32 }
+    ensures { result ≡ may_write excluded.now at count }
+{
+    if count == 0 {
+        return true;
+    }
+    let at = at as usize;
+    let size = 4096 * excluded.len();
+    if at >= size || count > size - at {
+        return false;
+    }
+    let first = at / 4096;
+    let end = (at + (count - 1)) / 4096 + 1;
+    none_set(&excluded[first..end])
+}
