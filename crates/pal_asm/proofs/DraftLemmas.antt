@@ -1,0 +1,66 @@
+-- A line with which the code is not too long, and the second pass, a statement at a time.
+use Rattle.std.proofs.Common.{◌≡◌, ℕ, ◌+◌, ◌<◌, ◌≤◌, List, [], ◌∷◌, ◌++◌, length, get_or, drop, map, refl, sym, ap, ◌∙◌, append_assoc, append-nil, false, arith}
+use Rattle.std.specs.Prelude.{Option, Result, Ok, Err, nat_lt}
+use Rattle.std.proofs.lemmas.Bool.Decides.{nat_tests}
+use Rattle.std.proofs.lemmas.List.{drop_more, drop_all, drop-map}
+use Rattle.pal_asm.specs.declared.fault.AsmFault.{AsmFault}
+use Rattle.pal_asm.specs.declared.fault.AsmError.{AsmError}
+use Rattle.pal_asm.specs.declared.fault.AsmError.TheVariants.{At, NoMemory}
+use Rattle.pal_asm.specs.declared.names.Name.{Name}
+use Rattle.pal_asm.specs.Seen.{Refuses}
+use Rattle.pal_asm.specs.declared.placed.Placed.{Placed as Held}
+use Rattle.pal_asm.specs.Statements.{Statement}
+use Rattle.pal_asm.specs.Assembling.{Placed, Draft, ◌>>=◌, line_size, code_with}
+use Rattle.pal_asm.specs.SeenDraft.{placed_seen, placed_bytes, sized_line}
+
+not_long : (n : ℕ) → n ≤ 49152 → nat_lt 49152 n ≡ false
+not_long n h = grind (arith, nat_tests)
+
+-- the code is not too long with a line
+pub fits : (before : Draft) (label : Option Name) (s : Option Statement) → before.end + line_size s ≤ 49152
+    → sized_line before label s ≡ Ok (record { label = label; statement = s })
+fits before label s h = rw (not_long (before.end + line_size s) h) refl
+
+-- ---- the second pass
+
+-- code behind other code
+abbrev pub behind : List ℕ → Result (List ℕ) AsmFault → Result (List ℕ) AsmFault
+behind code answer = answer >>= λ rest. Ok (code ++ rest)
+
+behind_twice : (a b : List ℕ) (r : Result (List ℕ) AsmFault) → behind a (behind b r) ≡ behind (a ++ b) r
+behind_twice a b (Ok rest) = ap Ok (sym (append_assoc a b rest))
+behind_twice a b (Err e) = refl
+
+-- what is left of the statements from the i-th on
+left : (items : List Held) (placed : List Placed) (i : ℕ) (p : Held) → map placed_seen items ≡ placed → i < length items → p ≡ get_or items i p
+    → drop i placed ≡ placed_seen p ∷ drop (i + 1) placed
+left items placed i p e l h =
+    let one : drop i items ≡ p ∷ drop (i + 1) items = drop_more items i p l ∙ ap (λ x. x ∷ drop (i + 1) items) (sym h) in
+    ap (drop i) (sym e) ∙ drop-map placed_seen i items ∙ ap (map placed_seen) one ∙ ap (λ xs. placed_seen p ∷ xs) (sym (drop-map placed_seen (i + 1) items) ∙ ap (drop (i + 1)) e)
+
+pub more_code : (items : List Held) (placed : List Placed) (labels : List (Name × ℕ)) (i : ℕ) (p : Held) (old new bytes : List ℕ)
+    → map placed_seen items ≡ placed → i < length items → p ≡ get_or items i p → placed_bytes labels (placed_seen p) ≡ Ok bytes → new ≡ old ++ bytes
+    → code_with labels placed ≡ behind old (code_with labels (drop i placed)) → code_with labels placed ≡ behind new (code_with labels (drop (i + 1) placed))
+more_code items placed labels i p old new bytes e l h b n ih =
+    let here : code_with labels (placed_seen p ∷ drop (i + 1) placed) ≡ behind bytes (code_with labels (drop (i + 1) placed)) =
+    ap (λ r. r >>= λ xs. behind xs (code_with labels (drop (i + 1) placed))) b in
+    ih ∙ ap (λ ps. behind old (code_with labels ps)) (left items placed i p e l h) ∙ ap (behind old) here
+    ∙ behind_twice old bytes (code_with labels (drop (i + 1) placed)) ∙ ap (λ xs. behind xs (code_with labels (drop (i + 1) placed))) (sym n)
+
+no_code : (items : List Held) (placed : List Placed) (labels : List (Name × ℕ)) (i : ℕ) (p : Held) (old : List ℕ) (fault : AsmFault)
+    → map placed_seen items ≡ placed → i < length items → p ≡ get_or items i p → placed_bytes labels (placed_seen p) ≡ Err fault
+    → code_with labels placed ≡ behind old (code_with labels (drop i placed)) → code_with labels placed ≡ Err fault
+no_code items placed labels i p old fault e l h b ih =
+    ih ∙ ap (λ ps. behind old (code_with labels ps)) (left items placed i p e l h) ∙ ap (λ r. behind old (r >>= λ xs. behind xs (code_with labels (drop (i + 1) placed)))) b
+
+pub refused : (items : List Held) (placed : List Placed) (labels : List (Name × ℕ)) (i : ℕ) (p : Held) (old : List ℕ) (error : AsmError)
+    → map placed_seen items ≡ placed → i < length items → p ≡ get_or items i p → Refuses error (placed_bytes labels (placed_seen p))
+    → code_with labels placed ≡ behind old (code_with labels (drop i placed)) → Refuses error (code_with labels placed)
+refused items placed labels i p old (At fault) e l h b ih = no_code items placed labels i p old fault e l h b ih
+refused items placed labels i p old NoMemory e l h b ih = tt
+
+pub whole_code : (items : List Held) (placed : List Placed) (labels : List (Name × ℕ)) (i : ℕ) (code : List ℕ)
+    → map placed_seen items ≡ placed → length items ≤ i → code_with labels placed ≡ behind code (code_with labels (drop i placed)) → code_with labels placed ≡ Ok code
+whole_code items placed labels i code e l ih =
+    let none : drop i placed ≡ [] = ap (drop i) (sym e) ∙ drop-map placed_seen i items ∙ ap (map placed_seen) (drop_all i items l) in
+    ih ∙ ap (λ ps. behind code (code_with labels ps)) none ∙ ap Ok (append-nil code)

@@ -1,0 +1,18 @@
+-- What holds of assembling and listing together.
+use Rattle.std.specs.Prelude.{◌≡◌, ℕ, ◌≤◌, ◌<◌, All, List, length, Ok}
+use Rattle.pal_asm.specs.Statements.{most_code}
+use Rattle.pal_asm.specs.Assembling.{code_of}
+use Rattle.pal_asm.specs.Listing.{Met, Meets, AreChosen, Lists, text_of}
+
+-- Every code has a listing.
+abbrev pub EachIsListed : Type 0
+EachIsListed = (code : List ℕ) → All (λ byte. byte < 256) code → (text : List ℕ) × Lists code text
+
+-- Code has one listing.
+abbrev pub OneListing : Type 0
+OneListing = (code a b : List ℕ) → Lists code a → Lists code b → a ≡ b
+
+-- Code of at most 49,120 bytes whose instructions stand in their chosen spellings is what its listing assembles to.
+abbrev pub ListingAssembles : Type 0
+ListingAssembles = (code : List ℕ) (met : List Met)
+    → length code ≤ most_code → All (λ byte. byte < 256) code → Meets 0 met code → AreChosen 0 met code → code_of (text_of 0 met) ≡ Ok code

@@ -1,0 +1,13 @@
+pub mod Lines
+pub mod Numbers
+pub mod Tokens
+pub mod Names
+pub mod Operands
+pub mod Statements
+pub mod Assembling
+pub mod Listing
+pub mod Seen
+pub mod Laws
+pub mod SeenTokens
+pub mod SeenStatements
+pub mod SeenDraft

@@ -1,0 +1,187 @@
+//! From an assembler text to its code.
+
+ghost use Rattle.std.specs.Prelude.{◌+◌, ◌≤◌, ◌≡◌, ◌≢◌, ◌∷◌, ◌<◌, ◌^◌, length, option_map, IfOk, IfErr, MatchOption, MatchResult, MatchBool, Result, Ok, Err};
+ghost use Rattle.pal_asm.specs.declared.fault.AsmKind.{AsmKind as KindView};
+ghost use Rattle.pal_asm.specs.Tokens.{Colon, tokens};
+ghost use Rattle.pal_asm.specs.SeenTokens.{seen, NoColonFirst};
+ghost use Rattle.pal_asm.specs.Lines.{lines};
+ghost use Rattle.pal_asm.specs.Assembling.{Draft as Lines, Line, at_line, label_in, word_in, statement_in, line_in, line_tokens, no_lines, draft_of, code_of};
+ghost use Rattle.pal_asm.specs.Seen.{Refuses, RefusesLine};
+ghost use Rattle.pal_asm.specs.SeenDraft.{Stands, Adds, AddsLine};
+ghost use Rattle.pal_asm.specs.SeenStatements.{seen as seen_statement, word_seen};
+
+use crate::draft::Draft;
+use crate::fault::{AsmError, AsmFault, AsmKind, LineFault};
+use crate::lines::{content, split_line, without_comment};
+use crate::names::{Mnemonic, Name, mnemonic_of};
+use crate::statement::{Statement, statement_in};
+use crate::tokens::{Token, first_token};
+use flk_base::Bytes;
+use std::alloc::Global;
+
+fn is_colon(token: Token<'_>) -> bool
+    ensures { MatchBool result (seen token.entry ≡ Colon) (seen token.entry ≢ Colon) }
+{
+    match token {
+        Token::Colon => true,
+        _ => false,
+    }
+}
+
+/// What stands behind a colon that stands first.
+fn colon_behind(text: &[u8]) -> Option<&[u8]>
+    ensures { MatchOption result (NoColonFirst (tokens text.now)) (λ rest. tokens text.now ≡ Colon ∷ tokens rest.now) }
+{
+    let (first, rest) = first_token(text)?;
+    if is_colon(first) { Some(rest) } else { None }
+}
+
+/// What stands before a colon, and the text behind it.
+fn label_from<'a>(first: Token<'a>, behind: &'a [u8]) -> Result<(Option<Name>, &'a [u8]), AsmKind>
+    ensures { MatchResult result
+        (λ label. label_in (seen first.entry ∷ Colon ∷ tokens behind.now) ≡ Ok (label.0, tokens label.1.now))
+        (λ kind. label_in (seen first.entry ∷ Colon ∷ tokens behind.now) ≡ Err kind) }
+{
+    match first {
+        Token::Word(word) => match Name::of(word) {
+            Some(name) => Ok((Some(name), behind)),
+            None => Err(AsmKind::Word),
+        },
+        _ => Err(AsmKind::Word),
+    }
+}
+
+/// The label of a line and the text behind it: a label is there where a colon stands first or second.
+fn label_in(text: &[u8]) -> Result<(Option<Name>, &[u8]), AsmKind>
+    ensures { MatchResult result
+        (λ label. label_in (tokens text.now) ≡ Ok (label.0, tokens label.1.now))
+        (λ kind. label_in (tokens text.now) ≡ Err kind) }
+{
+    let Some((first, rest)) = first_token(text) else {
+        return Ok((None, text));
+    };
+    if is_colon(first) {
+        return Err(AsmKind::Word);
+    }
+    match colon_behind(rest) {
+        Some(behind) => label_from(first, behind),
+        None => Ok((None, text)),
+    }
+}
+
+/// The word of a statement and the text behind it, where the statement begins with this token.
+fn word_from<'a>(first: Token<'a>, rest: &'a [u8]) -> Result<Option<(Mnemonic, &'a [u8])>, AsmKind>
+    ensures { MatchResult result
+        (λ word. word_in (seen first.entry ∷ tokens rest.now) ≡ Ok (word_seen word))
+        (λ kind. word_in (seen first.entry ∷ tokens rest.now) ≡ Err kind) }
+{
+    match first {
+        Token::Word(word) => match mnemonic_of(word) {
+            Some(mnemonic) => Ok(Some((mnemonic, rest))),
+            None => Err(AsmKind::Word),
+        },
+        _ => Err(AsmKind::Word),
+    }
+}
+
+/// The word of a statement and the text behind it.
+fn word_in(text: &[u8]) -> Result<Option<(Mnemonic, &[u8])>, AsmKind>
+    ensures { MatchResult result
+        (λ word. word_in (tokens text.now) ≡ Ok (word_seen word))
+        (λ kind. word_in (tokens text.now) ≡ Err kind) }
+{
+    match first_token(text) {
+        Some((first, rest)) => word_from(first, rest),
+        None => Ok(None),
+    }
+}
+
+/// The statement of a word and the text behind it, where there is one.
+fn statement_of(
+    alloc: Global,
+    word: Option<(Mnemonic, &[u8])>,
+) -> Result<Option<Statement>, LineFault>
+    ensures { MatchResult result
+        (λ statement. statement_in (word_seen word.entry) ≡ Ok (option_map seen_statement statement))
+        (λ fault. RefusesLine fault (statement_in (word_seen word.entry))) }
+{
+    match word {
+        None => Ok(None),
+        Some((mnemonic, text)) => Ok(Some(statement_in(alloc, mnemonic, text)?)),
+    }
+}
+
+/// One more line, or its first fault: the checks in their order.
+fn add_line(draft: &mut Draft, alloc: Global, number: u32, line: &[u8]) -> Result<(), LineFault>
+    ensures { (before : Lines) → Stands draft.old before → Adds number before draft.new (line_in before (line_tokens line.now)) result }
+{
+    let text = without_comment(content(line));
+    let (label, behind) = match label_in(text) {
+        Ok(label) => label,
+        Err(kind) => return Err(LineFault::Kind(kind)),
+    };
+    let word = match word_in(behind) {
+        Ok(word) => word,
+        Err(kind) => return Err(LineFault::Kind(kind)),
+    };
+    if draft.defines(label) {
+        return Err(LineFault::Kind(AsmKind::Twice));
+    }
+    let statement = statement_of(alloc, word)?;
+    draft.add(number, label, statement)
+}
+
+fn at(line: u32, fault: LineFault) -> AsmError
+    ensures { (answer : Result Line KindView) → RefusesLine fault answer → Refuses result (at_line line answer) }
+{
+    match fault {
+        LineFault::Kind(kind) => AsmError::At(AsmFault { line, kind }),
+        LineFault::NoMemory => AsmError::NoMemory,
+    }
+}
+
+/// One more line, whose number fits where there is anything on it.
+fn add_numbered(draft: &mut Draft, alloc: Global, number: u64, line: &[u8]) -> Result<(), AsmError>
+    requires { number + length line.now ≤ 2 ^ 32 }
+    ensures { (before : Lines) → Stands draft.old before → AddsLine number before draft.new line.now result }
+{
+    if line.is_empty() {
+        return Ok(());
+    }
+    let number = number as u32;
+    match add_line(draft, alloc, number, line) {
+        Ok(()) => Ok(()),
+        Err(fault) => Err(at(number, fault)),
+    }
+}
+
+/// The first pass: what all lines give, or the first fault.
+fn draft_of(alloc: Global, text: &[u8]) -> Result<Draft, AsmError>
+    requires { length text.now < 2 ^ 32 }
+    ensures { MatchResult result
+        (λ draft. (all : Lines) × (draft_of 1 no_lines (lines text.now) ≡ Ok all) × Stands draft all)
+        (λ error. Refuses error (draft_of 1 no_lines (lines text.now))) }
+{
+    let mut draft = Draft::new(alloc);
+    let mut number = 1u64;
+    let mut rest = Some(text);
+    'lines: while let Some(lines) = rest {
+        let (line, behind) = split_line(lines);
+        add_numbered(&mut draft, alloc, number, line)?;
+        number += 1;
+        rest = behind;
+    }
+    Ok(draft)
+}
+
+/// The code of a text of fewer than 2^32 bytes, each instruction in its chosen spelling, or the text's first fault.
+pub fn assemble(alloc: Global, text: &[u8]) -> Result<Bytes, AsmError>
+    requires { length text.now < 2 ^ 32 }
+    // The code, where there is no fault.
+    ensures code { IfOk result (λ code. code_of text.now ≡ Ok code.bytes) }
+    // Exactly the first fault; want of memory says nothing of the text.
+    ensures fault { IfErr result (λ error. Refuses error (code_of text.now)) }
+{
+    let draft = draft_of(alloc, text)?;
+    draft.finish(alloc)
+}

@@ -1,0 +1,18 @@
+//! What holds of assembling and listing together, as contracts.
+
+ghost use Rattle.pal_asm.specs.Laws.{EachIsListed, OneListing, ListingAssembles};
+
+/// Every code has a listing.
+pub fn each_is_listed()
+    ensures { EachIsListed }
+{}
+
+/// Code has one listing.
+pub fn one_listing()
+    ensures { OneListing }
+{}
+
+/// Code of at most 49,120 bytes whose instructions stand in their chosen spellings is what its listing assembles to.
+pub fn listing_assembles()
+    ensures { ListingAssembles }
+{}

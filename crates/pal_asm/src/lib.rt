@@ -1,0 +1,28 @@
+//! The assembler of the i386 profile and its listing: text to code in chosen spellings, and code to text that assembles
+//! to it again. docs/ASSEMBLER.md has the language.
+#![tactic(auto)]
+
+mod assembling;
+mod commas;
+mod draft;
+mod fault;
+mod labels;
+mod laws;
+mod lines;
+mod listing;
+mod names;
+mod numbers;
+mod operand;
+mod placed;
+mod spelling;
+mod statement;
+mod tokens;
+mod writing;
+
+pub use assembling::assemble;
+pub use fault::{AsmError, AsmFault, AsmKind};
+pub use laws::{each_is_listed, listing_assembles, one_listing};
+pub use listing::disassemble;
+
+#[cfg(test)]
+mod tests;
