@@ -1,6 +1,14 @@
+pub mod AllOfLemmas
 pub mod BufferLemmas
+pub mod ExpressionLemmas
 pub mod LineLemmas
 pub mod NumberLemmas
+pub mod PieceLemmas
+pub mod PlainLemmas
 pub mod ReaderLemmas
 pub mod ReadingLemmas
+pub mod SpellingLemmas
+pub mod ValueLemmas
+pub mod VariableLemmas
+pub mod WindowLemmas
 pub mod WordLemmas

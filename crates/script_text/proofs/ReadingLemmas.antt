@@ -1,22 +1,21 @@
 -- What is read without a fault is what the line spells, and the other way round.
-use Rattle.std.proofs.Common.{◌≡◌, cond, ℕ, ◌⊎◌, inl, inr, Bool, true, false, List, [], ◌∷◌, length, get_or, drop, refl, sym, ap, subst, arith}
-use Rattle.std.specs.Prelude.{Option, Some, None, Result, Ok, Err, IfOk, nat_lt, nat_eq, codes}
-use Rattle.std.specs.List.{list_all, starts_with}
+use Rattle.std.proofs.Common.{◌≡◌, cond, ℕ, ◌≤◌, ◌⊎◌, inl, inr, Bool, true, false, List, [], ◌∷◌, length, refl, sym, ap, subst, ◌∙◌, arith}
+use Rattle.std.specs.Prelude.{Option, Some, None, Result, Ok, Err, IfOk, nat_lt, nat_le, ◌&&◌, codes}
+use Rattle.std.specs.List.{list_all}
 use Rattle.std.specs.Str.{bytes_eq}
 use Rattle.std.specs.Cmp.Lexicographic.{same_text}
-use Rattle.std.proofs.lemmas.Bool.Decides.{nat_tests, Decides-eqb}
-use Rattle.std.proofs.lemmas.Slice.Eq.{starts_is}
+use Rattle.std.proofs.lemmas.Bool.Decides.{nat_tests}
 use Rattle.std.proofs.lemmas.List.Sums.{AllPass-from_list_all, list_all-from_AllPass}
-use Rattle.std.proofs.lemmas.List.Elements.{All-get_or}
-use Rattle.hex.specs.Hex.{decode_of, is_hex_digit}
-use Rattle.hex.specs.declared.error.FromHexError.{FromHexError}
-use Rattle.hex.proofs.HexLemmas.{decode_of-ok}
-use Rattle.flk_base.specs.Hexadecimal.{HasNonDigit}
 use Rattle.script_text.specs.Lines.{longest_line, words, content}
-use Rattle.script_text.specs.Grammar.{Request, Nothing, ExtendBy, ReadOf, number_of, is_printable, is_remark, IsExpression, SpellsWords, SpellsLine}
-use Rattle.script_text.specs.Reading.{◌>>=◌, or_fault, decoded, number_in, expression_in, extend_in, read_in, command_in, words_in, reading, Gives}
+use Rattle.script_text.specs.Numbers.{number_of}
+use Rattle.script_text.specs.Expressions.{Term, is_name, is_small_letter, is_name_byte, SpellsExpression}
+use Rattle.script_text.specs.ExpressionReading.{expression_of}
+use Rattle.script_text.specs.Grammar.{Request, Nothing, ExtendBy, ReadOf, LetBe, ShowOf, ImageOf, ANumber, AName, AKind, AnExpression, kind_word, Spells, is_printable, is_remark, command_word, arguments, SpellAll, SpellsCommand, SpellsWords, SpellsLine}
+use Rattle.script_text.specs.Reading.{◌>>=◌, or_fault, number_in, name_in, kind_in, expression_in, one_of, two_of, five_of, extend_in, read_in, let_in, show_in, image_in, command_in, words_in, reading, Gives}
+use Rattle.script_text.specs.Seen.{IsShortName, HasShortName}
 use Rattle.script_text.specs.declared.line.LineFault.{LineFault}
-use Rattle.script_text.specs.declared.line.LineFault.TheVariants.{Number, Expression, NoMemory}
+use Rattle.script_text.specs.declared.line.LineFault.TheVariants.{Number, Expression, Name, NoMemory}
+use Rattle.script_text.proofs.ExpressionLemmas as expression
 
 -- which way a test went
 chosen : {A : Type 0} (b : Bool) (x y z : A) → cond b x y ≡ z → ((b ≡ true) × (x ≡ z)) ⊎ ((b ≡ false) × (y ≡ z))
@@ -31,65 +30,133 @@ bind_ok : {A B : Type 0} (r : Result A LineFault) (f : A → Result B LineFault)
 bind_ok (Ok x) f y h = (x, refl, h)
 bind_ok (Err e) f y h = cc
 
-named : (word : List ℕ) (us vs : List (List ℕ)) (name : List ℕ) → bytes_eq word name ≡ true → us ≡ vs → word ∷ us ≡ name ∷ vs
-named word us vs name h e = let n : word ≡ name = same_text word name (sym h) in cc
+-- ---- one word
 
-number_found : (word : List ℕ) (n : ℕ) → number_in word ≡ Ok n → number_of word ≡ Some n
+number_found : (word : List ℕ) (n : ℕ) → number_in word ≡ Ok n → Spells (ANumber n) word
 number_found word n h = or_fault_ok (number_of word) Number n h
 
-decoded_ok : {E : Type 0} (r : Result (List ℕ) E) (bytes : List ℕ) → decoded r ≡ Ok bytes → r ≡ Ok bytes
-decoded_ok (Ok x) bytes h = cc
-decoded_ok (Err e) bytes h = cc
+name_found : (word name : List ℕ) → name_in word ≡ Ok name → Spells (AName name) word
+name_found word name h = elim (chosen (is_name word) _ _ _ h) [
+  | inl took ↦ let e : word ≡ name = cc in (e, ap is_name (sym e) ∙ took.0)
+  | inr other ↦ cc
+]
 
-expression_found : (word bytes : List ℕ) → expression_in word ≡ Ok bytes → IsExpression word bytes
-expression_found word bytes h =
-    elim (chosen (starts_with nat_eq word (codes "x:")) _ _ _ h) [
-      | inl took ↦ (drop 2 word, (starts_is Decides-eqb word (codes "x:") true (sym took.0)).0 refl, decoded_ok (decode_of (drop 2 word)) bytes took.1)
-      | inr other ↦ cc
+kind_found : (word : List ℕ) (job : Bool) → kind_in word ≡ Ok job → Spells (AKind job) word
+kind_found word job h = elim (chosen (bytes_eq word (codes "pal")) _ _ _ h) [
+  | inl took ↦ let e : false ≡ job = cc in same_text word (codes "pal") (sym took.0) ∙ ap kind_word e
+  | inr other ↦ elim (chosen (bytes_eq word (codes "job")) _ _ _ other.1) [
+    | inl took ↦ let e : true ≡ job = cc in same_text word (codes "job") (sym took.0) ∙ ap kind_word e
+    | inr neither ↦ cc
+  ]
+]
+
+expression_found : (word : List ℕ) (terms : List Term) → expression_in word ≡ Ok terms → Spells (AnExpression terms) word
+expression_found word terms h = expression.found word terms (or_fault_ok (expression_of word) Expression terms h)
+
+-- ---- so many words
+
+one_found : (ws : List (List ℕ)) (w : List ℕ) → one_of ws ≡ Ok w → ws ≡ w ∷ []
+one_found [] w h = cc
+one_found (a ∷ []) w h = cc
+one_found (a ∷ b ∷ ws) w h = cc
+
+two_found : (ws : List (List ℕ)) (w : List ℕ × List ℕ) → two_of ws ≡ Ok w → ws ≡ w.0 ∷ w.1 ∷ []
+two_found [] w h = cc
+two_found (a ∷ []) w h = cc
+two_found (a ∷ b ∷ []) w h = cc
+two_found (a ∷ b ∷ c ∷ ws) w h = cc
+
+five_found : (ws : List (List ℕ)) (w : List ℕ × List ℕ × List ℕ × List ℕ × List ℕ) → five_of ws ≡ Ok w → ws ≡ w.0 ∷ w.1 ∷ w.2 ∷ w.3 ∷ w.4 ∷ []
+five_found [] w h = cc
+five_found (a ∷ []) w h = cc
+five_found (a ∷ b ∷ []) w h = cc
+five_found (a ∷ b ∷ c ∷ []) w h = cc
+five_found (a ∷ b ∷ c ∷ d ∷ []) w h = cc
+five_found (a ∷ b ∷ c ∷ d ∷ e ∷ []) w h = cc
+five_found (a ∷ b ∷ c ∷ d ∷ e ∷ f ∷ ws) w h = cc
+
+-- ---- each command
+
+-- the words behind a command spell the arguments of the request that was read
+pub record Reads (word : List ℕ) (others : List (List ℕ)) (request : Request) : Type 0 where
+  pub some : (ws : List (List ℕ)) → SpellsCommand request ws → SpellsWords request ws
+  pub command : command_word request ≡ word
+  pub rest : SpellAll (arguments request) others
+
+extend_found : (ws : List (List ℕ)) (request : Request) → extend_in ws ≡ Ok request → Reads (codes "extend") ws request
+extend_found ws request h =
+    let w = bind_ok (two_of ws) _ request h in
+    let r = bind_ok (number_in w.0.0) _ request w.2 in
+    let t = bind_ok (expression_in w.0.1) _ request r.2 in
+    let e : ExtendBy r.0 t.0 ≡ request = cc in
+    let spelled : SpellAll (arguments (ExtendBy r.0 t.0)) ws = rw (two_found ws w.0 w.1) (number_found w.0.0 r.0 r.1, (expression_found w.0.1 t.0 t.1, tt)) in
+    subst (λ q. Reads (codes "extend") ws q) e (record { some = λ vs s. s; command = refl; rest = spelled })
+
+read_found : (ws : List (List ℕ)) (request : Request) → read_in ws ≡ Ok request → Reads (codes "read") ws request
+read_found ws request h =
+    let w = bind_ok (one_of ws) _ request h in
+    let r = bind_ok (number_in w.0) _ request w.2 in
+    let e : ReadOf r.0 ≡ request = cc in
+    let spelled : SpellAll (arguments (ReadOf r.0)) ws = rw (one_found ws w.0 w.1) (number_found w.0 r.0 r.1, tt) in
+    subst (λ q. Reads (codes "read") ws q) e (record { some = λ vs s. s; command = refl; rest = spelled })
+
+let_found : (ws : List (List ℕ)) (request : Request) → let_in ws ≡ Ok request → Reads (codes "let") ws request
+let_found ws request h =
+    let w = bind_ok (two_of ws) _ request h in
+    let n = bind_ok (name_in w.0.0) _ request w.2 in
+    let v = bind_ok (expression_in w.0.1) _ request n.2 in
+    let e : LetBe n.0 v.0 ≡ request = cc in
+    let spelled : SpellAll (arguments (LetBe n.0 v.0)) ws = rw (two_found ws w.0 w.1) (name_found w.0.0 n.0 n.1, (expression_found w.0.1 v.0 v.1, tt)) in
+    subst (λ q. Reads (codes "let") ws q) e (record { some = λ vs s. s; command = refl; rest = spelled })
+
+show_found : (ws : List (List ℕ)) (request : Request) → show_in ws ≡ Ok request → Reads (codes "show") ws request
+show_found ws request h =
+    let w = bind_ok (one_of ws) _ request h in
+    let v = bind_ok (expression_in w.0) _ request w.2 in
+    let e : ShowOf v.0 ≡ request = cc in
+    let spelled : SpellAll (arguments (ShowOf v.0)) ws = rw (one_found ws w.0 w.1) (expression_found w.0 v.0 v.1, tt) in
+    subst (λ q. Reads (codes "show") ws q) e (record { some = λ vs s. s; command = refl; rest = spelled })
+
+image_found : (ws : List (List ℕ)) (request : Request) → image_in ws ≡ Ok request → Reads (codes "image") ws request
+image_found ws request h =
+    let w = bind_ok (five_of ws) _ request h in
+    let n = bind_ok (name_in w.0.0) _ request w.2 in
+    let k = bind_ok (kind_in w.0.1) _ request n.2 in
+    let a = bind_ok (number_in w.0.2) _ request k.2 in
+    let b = bind_ok (number_in w.0.3) _ request a.2 in
+    let c = bind_ok (expression_in w.0.4) _ request b.2 in
+    let e : ImageOf n.0 k.0 a.0 b.0 c.0 ≡ request = cc in
+    let spelled : SpellAll (arguments (ImageOf n.0 k.0 a.0 b.0 c.0)) ws =
+    rw (five_found ws w.0 w.1) (name_found w.0.0 n.0 n.1, (kind_found w.0.1 k.0 k.1, (number_found w.0.2 a.0 a.1, (number_found w.0.3 b.0 b.1, (expression_found w.0.4 c.0 c.1, tt))))) in
+    subst (λ q. Reads (codes "image") ws q) e (record { some = λ vs s. s; command = refl; rest = spelled })
+
+reads_words : (word name : List ℕ) (others : List (List ℕ)) (request : Request) → bytes_eq word name ≡ true → Reads name others request → SpellsWords request (word ∷ others)
+reads_words word name others request same r = r.some (word ∷ others) (same_text word name (sym same) ∙ sym r.command, r.rest)
+
+command_found : (word : List ℕ) (others : List (List ℕ)) (request : Request) → command_in word others ≡ Ok request → SpellsWords request (word ∷ others)
+command_found word others request h = elim (chosen (bytes_eq word (codes "extend")) _ _ _ h) [
+  | inl took ↦ reads_words word (codes "extend") others request took.0 (extend_found others request took.1)
+  | inr a ↦ elim (chosen (bytes_eq word (codes "read")) _ _ _ a.1) [
+    | inl took ↦ reads_words word (codes "read") others request took.0 (read_found others request took.1)
+    | inr b ↦ elim (chosen (bytes_eq word (codes "let")) _ _ _ b.1) [
+      | inl took ↦ reads_words word (codes "let") others request took.0 (let_found others request took.1)
+      | inr c ↦ elim (chosen (bytes_eq word (codes "show")) _ _ _ c.1) [
+        | inl took ↦ reads_words word (codes "show") others request took.0 (show_found others request took.1)
+        | inr d ↦ elim (chosen (bytes_eq word (codes "image")) _ _ _ d.1) [
+          | inl took ↦ reads_words word (codes "image") others request took.0 (image_found others request took.1)
+          | inr none ↦ cc
+        ]
+      ]
     ]
-
-extend_found : (ws : List (List ℕ)) (request : Request) → extend_in ws ≡ Ok request
-    → (number : List ℕ) × (expression : List ℕ) × (r : ℕ) × (text : List ℕ)
-    × (ws ≡ number ∷ expression ∷ []) × (number_of number ≡ Some r) × IsExpression expression text × (request ≡ ExtendBy r text)
-extend_found [] request h = cc
-extend_found (a ∷ []) request h = cc
-extend_found (a ∷ b ∷ c ∷ ws) request h = cc
-extend_found (a ∷ b ∷ []) request h =
-    let n = bind_ok (number_in a) (λ r. expression_in b >>= λ text. Ok (ExtendBy r text)) request h in
-    let t = bind_ok (expression_in b) (λ text. Ok (ExtendBy n.0 text)) request n.2 in
-    (a, b, n.0, t.0, refl, number_found a n.0 n.1, expression_found b t.0 t.1, cc)
-
-read_found : (ws : List (List ℕ)) (request : Request) → read_in ws ≡ Ok request
-    → (number : List ℕ) × (r : ℕ) × (ws ≡ number ∷ []) × (number_of number ≡ Some r) × (request ≡ ReadOf r)
-read_found [] request h = cc
-read_found (a ∷ b ∷ ws) request h = cc
-read_found (a ∷ []) request h =
-    let n = bind_ok (number_in a) (λ r. Ok (ReadOf r)) request h in
-    (a, n.0, refl, number_found a n.0 n.1, cc)
-
-command_found : (word : List ℕ) (arguments : List (List ℕ)) (request : Request) → command_in word arguments ≡ Ok request → SpellsWords request (word ∷ arguments)
-command_found word arguments request h =
-    elim (chosen (bytes_eq word (codes "extend")) _ _ _ h) [
-      | inl took ↦
-          let e = extend_found arguments request took.1 in
-          subst (λ q. SpellsWords q (word ∷ arguments)) (sym e.7)
-          (e.0, e.1, named word _ _ (codes "extend") took.0 e.4, e.5, e.6)
-      | inr other ↦
-          elim (chosen (bytes_eq word (codes "read")) _ _ _ other.1) [
-            | inl took ↦
-                let e = read_found arguments request took.1 in
-                subst (λ q. SpellsWords q (word ∷ arguments)) (sym e.4)
-                (e.0, named word _ _ (codes "read") took.0 e.2, e.3)
-            | inr neither ↦ cc
-          ]
-    ]
+  ]
+]
 
 words_found : (ws : List (List ℕ)) (request : Request) → words_in ws ≡ Ok request → SpellsWords request ws
 words_found [] request h = let e : request ≡ Nothing = cc in subst (λ q. SpellsWords q []) (sym e) refl
-words_found (word ∷ arguments) request h =
-    elim (chosen (is_remark (word ∷ arguments)) _ _ _ h) [
-      | inl took ↦ let e : request ≡ Nothing = cc in subst (λ q. SpellsWords q (word ∷ arguments)) (sym e) took.0
-      | inr other ↦ command_found word arguments request other.1
+words_found (word ∷ others) request h =
+    elim (chosen (is_remark (word ∷ others)) _ _ _ h) [
+      | inl took ↦ let e : request ≡ Nothing = cc in subst (λ q. SpellsWords q (word ∷ others)) (sym e) took.0
+      | inr other ↦ command_found word others request other.1
     ]
 
 -- what is read is spelled so
@@ -108,12 +175,67 @@ found line request h =
           ]
     ]
 
--- what is spelled so is read
+-- ---- what is spelled so is read
+
+number_again : (word : List ℕ) (n : ℕ) → Spells (ANumber n) word → number_in word ≡ Ok n
+number_again word n h = rw h refl
+
+name_again : (word name : List ℕ) → Spells (AName name) word → name_in word ≡ Ok name
+name_again word name h = let e : is_name word ≡ true = ap is_name h.0 ∙ h.1 in rw e (ap Ok h.0)
+
+kind_again : (word : List ℕ) (job : Bool) → Spells (AKind job) word → kind_in word ≡ Ok job
+kind_again word false h = rw h refl
+kind_again word true h = rw h refl
+
+expression_again : (word : List ℕ) (terms : List Term) → Spells (AnExpression terms) word → expression_in word ≡ Ok terms
+expression_again word terms h = rw (expression.again terms word h) refl
+
+extend_again : (r : ℕ) (text : List Term) (ws : List (List ℕ)) → SpellAll (arguments (ExtendBy r text)) ws → extend_in ws ≡ Ok (ExtendBy r text)
+extend_again r text [] s = absurd s
+extend_again r text (a ∷ []) s = absurd s.1
+extend_again r text (a ∷ b ∷ c ∷ ws) s = absurd s.1.1
+extend_again r text (a ∷ b ∷ []) s = rw (number_again a r s.0, expression_again b text s.1.0) refl
+
+read_again : (r : ℕ) (ws : List (List ℕ)) → SpellAll (arguments (ReadOf r)) ws → read_in ws ≡ Ok (ReadOf r)
+read_again r [] s = absurd s
+read_again r (a ∷ b ∷ ws) s = absurd s.1
+read_again r (a ∷ []) s = rw (number_again a r s.0) refl
+
+let_again : (name : List ℕ) (value : List Term) (ws : List (List ℕ)) → SpellAll (arguments (LetBe name value)) ws → let_in ws ≡ Ok (LetBe name value)
+let_again name value [] s = absurd s
+let_again name value (a ∷ []) s = absurd s.1
+let_again name value (a ∷ b ∷ c ∷ ws) s = absurd s.1.1
+let_again name value (a ∷ b ∷ []) s = rw (name_again a name s.0, expression_again b value s.1.0) refl
+
+show_again : (value : List Term) (ws : List (List ℕ)) → SpellAll (arguments (ShowOf value)) ws → show_in ws ≡ Ok (ShowOf value)
+show_again value [] s = absurd s
+show_again value (a ∷ b ∷ ws) s = absurd s.1
+show_again value (a ∷ []) s = rw (expression_again a value s.0) refl
+
+image_again : (name : List ℕ) (job : Bool) (entry budget : ℕ) (code : List Term) (ws : List (List ℕ)) → SpellAll (arguments (ImageOf name job entry budget code)) ws
+    → image_in ws ≡ Ok (ImageOf name job entry budget code)
+image_again name job entry budget code [] s = absurd s
+image_again name job entry budget code (a ∷ []) s = absurd s.1
+image_again name job entry budget code (a ∷ b ∷ []) s = absurd s.1.1
+image_again name job entry budget code (a ∷ b ∷ c ∷ []) s = absurd s.1.1.1
+image_again name job entry budget code (a ∷ b ∷ c ∷ d ∷ []) s = absurd s.1.1.1.1
+image_again name job entry budget code (a ∷ b ∷ c ∷ d ∷ e ∷ f ∷ ws) s = absurd s.1.1.1.1.1
+image_again name job entry budget code (a ∷ b ∷ c ∷ d ∷ e ∷ []) s =
+    rw (name_again a name s.0, kind_again b job s.1.0, number_again c entry s.1.1.0, number_again d budget s.1.1.1.0, expression_again e code s.1.1.1.1.0) refl
+
 words_again : (request : Request) (ws : List (List ℕ)) → SpellsWords request ws → words_in ws ≡ Ok request
 words_again Nothing [] h = refl
-words_again Nothing (word ∷ arguments) h = rw h refl
-words_again (ExtendBy r text) ws h = let e = h.4 in rw (h.2, h.3, e.1, e.2) refl
-words_again (ReadOf r) ws h = rw (h.1, h.2) refl
+words_again Nothing (word ∷ others) h = rw h refl
+words_again (ExtendBy r text) [] h = absurd h
+words_again (ExtendBy r text) (word ∷ others) h = rw h.0 (extend_again r text others h.1)
+words_again (ReadOf r) [] h = absurd h
+words_again (ReadOf r) (word ∷ others) h = rw h.0 (read_again r others h.1)
+words_again (LetBe name value) [] h = absurd h
+words_again (LetBe name value) (word ∷ others) h = rw h.0 (let_again name value others h.1)
+words_again (ShowOf value) [] h = absurd h
+words_again (ShowOf value) (word ∷ others) h = rw h.0 (show_again value others h.1)
+words_again (ImageOf name job entry budget code) [] h = absurd h
+words_again (ImageOf name job entry budget code) (word ∷ others) h = rw h.0 (image_again name job entry budget code others h.1)
 
 pub again : (line : List ℕ) (request : Request) → SpellsLine request line → reading line ≡ Ok request
 again line request h =
@@ -124,71 +246,126 @@ pub found_if : {X : Type 0} (view : X → Request) (r : Result X LineFault) (lin
 found_if view (Ok x) line h = found line (view x) h
 found_if view (Err e) line h = tt
 
--- ---- digits
+-- ---- names
 
--- what has a byte that is no digit spells no bytes
-undecoded : (text : List ℕ) (r : Result (List ℕ) FromHexError) → HasNonDigit text → decode_of text ≡ r → decoded r ≡ Err Expression
-undecoded text (Err e) bad h = refl
-undecoded text (Ok bytes) bad h =
-    let digits = decode_of-ok text bytes h in
-    let digit : is_hex_digit (get_or text bad.0 bad.1) ≡ true = All-get_or (λ c. is_hex_digit c ≡ true) text bad.0 bad.1 bad.2 digits.1 in
-    let same = bad.3 in
-    let none = bad.4 in
-    absurd (cc)
+is_name_short : (word : List ℕ) → is_name word ≡ true → IsShortName word
+is_name_short [] h = cc
+is_name_short (c ∷ cs) h = record { some = omega arith; short = grind (arith, nat_tests, h) }
 
--- a word behind whose x: a byte is no digit
-pub no_expression : (word text : List ℕ) → starts_with nat_eq word (codes "x:") ≡ true → text ≡ drop 2 word → HasNonDigit text → expression_in word ≡ Err Expression
-no_expression word text begins same bad = rw begins (undecoded (drop 2 word) (decode_of (drop 2 word)) (subst (λ t. HasNonDigit t) same bad) refl)
+arguments_short : (request : Request) (others : List (List ℕ)) → SpellAll (arguments request) others → HasShortName request
+arguments_short Nothing others s = tt
+arguments_short (ExtendBy r text) others s = tt
+arguments_short (ReadOf r) others s = tt
+arguments_short (LetBe name value) [] s = absurd s
+arguments_short (LetBe name value) (word ∷ others) s = is_name_short name s.0.1
+arguments_short (ShowOf value) others s = tt
+arguments_short (ImageOf name job entry budget code) [] s = absurd s
+arguments_short (ImageOf name job entry budget code) (word ∷ others) s = is_name_short name s.0.1
+
+command_short : (request : Request) (ws : List (List ℕ)) → SpellsCommand request ws → HasShortName request
+command_short request [] s = absurd s
+command_short request (word ∷ others) s = arguments_short request others s.1
+
+-- a name that is bound has 1 to 16 bytes
+pub words_short : (request : Request) (ws : List (List ℕ)) → SpellsWords request ws → HasShortName request
+words_short Nothing ws s = tt
+words_short (ExtendBy r text) ws s = tt
+words_short (ReadOf r) ws s = tt
+words_short (LetBe name value) ws s = command_short (LetBe name value) ws s
+words_short (ShowOf value) ws s = tt
+words_short (ImageOf name job entry budget code) ws s = command_short (ImageOf name job entry budget code) ws s
+
+pub short_if : {X : Type 0} (view : X → Request) (r : Result X LineFault) (line : List ℕ) → Gives view r (reading line) → IfOk r (λ x. HasShortName (view x))
+short_if view (Ok x) line h = words_short (view x) (words (content line)) (found line (view x) h).spelled
+short_if view (Err e) line h = tt
 
 -- ---- want of memory
 
--- a fault is one of those of the first check, or of the second
-bind_err : {A B : Type 0} (r : Result A LineFault) (f : A → Result B LineFault) (e : LineFault) → (r >>= f) ≡ Err e → (r ≡ Err e) ⊎ ((x : A) × (f x ≡ Err e))
-bind_err (Ok x) f e h = inr (x, h)
-bind_err (Err d) f e h = inl (let same : d ≡ e = cc in ap (λ x. Err x) same)
+-- neither the first check nor the second gives it
+bind_memory : {A B : Type 0} (r : Result A LineFault) (f : A → Result B LineFault) → (r ≡ Err NoMemory → ⊥) → ((x : A) → f x ≡ Err NoMemory → ⊥) → (r >>= f) ≡ Err NoMemory → ⊥
+bind_memory (Ok x) f first second h = second x h
+bind_memory (Err d) f first second h = first (let same : d ≡ NoMemory = cc in ap (λ e. Err e) same)
 
-number_memory : (o : Option ℕ) → or_fault o Number ≡ Err NoMemory → ⊥
-number_memory (Some n) h = cc
-number_memory None h = cc
+one_memory : (ws : List (List ℕ)) → one_of ws ≡ Err NoMemory → ⊥
+one_memory [] h = cc
+one_memory (a ∷ []) h = cc
+one_memory (a ∷ b ∷ ws) h = cc
 
-decoded_memory : {E : Type 0} (r : Result (List ℕ) E) → decoded r ≡ Err NoMemory → ⊥
-decoded_memory (Ok x) h = cc
-decoded_memory (Err e) h = cc
+two_memory : (ws : List (List ℕ)) → two_of ws ≡ Err NoMemory → ⊥
+two_memory [] h = cc
+two_memory (a ∷ []) h = cc
+two_memory (a ∷ b ∷ []) h = cc
+two_memory (a ∷ b ∷ c ∷ ws) h = cc
+
+five_memory : (ws : List (List ℕ)) → five_of ws ≡ Err NoMemory → ⊥
+five_memory [] h = cc
+five_memory (a ∷ []) h = cc
+five_memory (a ∷ b ∷ []) h = cc
+five_memory (a ∷ b ∷ c ∷ []) h = cc
+five_memory (a ∷ b ∷ c ∷ d ∷ []) h = cc
+five_memory (a ∷ b ∷ c ∷ d ∷ e ∷ []) h = cc
+five_memory (a ∷ b ∷ c ∷ d ∷ e ∷ f ∷ ws) h = cc
+
+number_memory : (word : List ℕ) → number_in word ≡ Err NoMemory → ⊥
+number_memory word h = at (number_of word) h
+  where
+    at : (o : Option ℕ) → or_fault o Number ≡ Err NoMemory → ⊥
+    at (Some n) h = cc
+    at None h = cc
 
 expression_memory : (word : List ℕ) → expression_in word ≡ Err NoMemory → ⊥
-expression_memory word h = elim (chosen (starts_with nat_eq word (codes "x:")) _ _ _ h) [
-  | inl took ↦ decoded_memory (decode_of (drop 2 word)) took.1
-  | inr other ↦ cc
+expression_memory word h = at (expression_of word) h
+  where
+    at : (o : Option (List Term)) → or_fault o Expression ≡ Err NoMemory → ⊥
+    at (Some n) h = cc
+    at None h = cc
+
+name_memory : (word : List ℕ) → name_in word ≡ Err NoMemory → ⊥
+name_memory word h = elim (chosen (is_name word) _ _ _ h) [ inl took ↦ cc | inr other ↦ cc ]
+
+kind_memory : (word : List ℕ) → kind_in word ≡ Err NoMemory → ⊥
+kind_memory word h = elim (chosen (bytes_eq word (codes "pal")) _ _ _ h) [
+  | inl took ↦ cc
+  | inr other ↦ elim (chosen (bytes_eq word (codes "job")) _ _ _ other.1) [ inl took ↦ cc | inr neither ↦ cc ]
 ]
 
 extend_memory : (ws : List (List ℕ)) → extend_in ws ≡ Err NoMemory → ⊥
-extend_memory [] h = cc
-extend_memory (a ∷ []) h = cc
-extend_memory (a ∷ b ∷ c ∷ ws) h = cc
-extend_memory (a ∷ b ∷ []) h = elim (bind_err (number_in a) (λ r. expression_in b >>= λ text. Ok (ExtendBy r text)) NoMemory h) [
-  | inl number ↦ number_memory (number_of a) number
-  | inr rest ↦ elim (bind_err (expression_in b) (λ text. Ok (ExtendBy rest.0 text)) NoMemory rest.1) [
-    | inl expression ↦ expression_memory b expression
-    | inr done ↦ cc
-  ]
-]
+extend_memory ws = bind_memory (two_of ws) _ (two_memory ws) (λ w. bind_memory (number_in w.0) _ (number_memory w.0) (λ r. bind_memory (expression_in w.1) _ (expression_memory w.1) (λ t h. cc)))
 
 read_memory : (ws : List (List ℕ)) → read_in ws ≡ Err NoMemory → ⊥
-read_memory [] h = cc
-read_memory (a ∷ b ∷ ws) h = cc
-read_memory (a ∷ []) h = elim (bind_err (number_in a) (λ r. Ok (ReadOf r)) NoMemory h) [ inl number ↦ number_memory (number_of a) number | inr done ↦ cc ]
+read_memory ws = bind_memory (one_of ws) _ (one_memory ws) (λ w. bind_memory (number_in w) _ (number_memory w) (λ r h. cc))
 
-command_memory : (word : List ℕ) (arguments : List (List ℕ)) → command_in word arguments ≡ Err NoMemory → ⊥
-command_memory word arguments h = elim (chosen (bytes_eq word (codes "extend")) _ _ _ h) [
-  | inl took ↦ extend_memory arguments took.1
-  | inr other ↦ elim (chosen (bytes_eq word (codes "read")) _ _ _ other.1) [ inl took ↦ read_memory arguments took.1 | inr neither ↦ cc ]
+let_memory : (ws : List (List ℕ)) → let_in ws ≡ Err NoMemory → ⊥
+let_memory ws = bind_memory (two_of ws) _ (two_memory ws) (λ w. bind_memory (name_in w.0) _ (name_memory w.0) (λ n. bind_memory (expression_in w.1) _ (expression_memory w.1) (λ v h. cc)))
+
+show_memory : (ws : List (List ℕ)) → show_in ws ≡ Err NoMemory → ⊥
+show_memory ws = bind_memory (one_of ws) _ (one_memory ws) (λ w. bind_memory (expression_in w) _ (expression_memory w) (λ v h. cc))
+
+image_memory : (ws : List (List ℕ)) → image_in ws ≡ Err NoMemory → ⊥
+image_memory ws =
+    bind_memory (five_of ws) _ (five_memory ws) (λ w. bind_memory (name_in w.0) _ (name_memory w.0) (λ n. bind_memory (kind_in w.1) _ (kind_memory w.1)
+    (λ k. bind_memory (number_in w.2) _ (number_memory w.2) (λ a. bind_memory (number_in w.3) _ (number_memory w.3) (λ b. bind_memory (expression_in w.4) _ (expression_memory w.4) (λ c h. cc))))))
+
+command_memory : (word : List ℕ) (others : List (List ℕ)) → command_in word others ≡ Err NoMemory → ⊥
+command_memory word others h = elim (chosen (bytes_eq word (codes "extend")) _ _ _ h) [
+  | inl took ↦ extend_memory others took.1
+  | inr a ↦ elim (chosen (bytes_eq word (codes "read")) _ _ _ a.1) [
+    | inl took ↦ read_memory others took.1
+    | inr b ↦ elim (chosen (bytes_eq word (codes "let")) _ _ _ b.1) [
+      | inl took ↦ let_memory others took.1
+      | inr c ↦ elim (chosen (bytes_eq word (codes "show")) _ _ _ c.1) [
+        | inl took ↦ show_memory others took.1
+        | inr d ↦ elim (chosen (bytes_eq word (codes "image")) _ _ _ d.1) [ inl took ↦ image_memory others took.1 | inr none ↦ cc ]
+      ]
+    ]
+  ]
 ]
 
 words_memory : (ws : List (List ℕ)) → words_in ws ≡ Err NoMemory → ⊥
 words_memory [] h = cc
-words_memory (word ∷ arguments) h = elim (chosen (is_remark (word ∷ arguments)) _ _ _ h) [
+words_memory (word ∷ others) h = elim (chosen (is_remark (word ∷ others)) _ _ _ h) [
   | inl took ↦ cc
-  | inr other ↦ command_memory word arguments other.1
+  | inr other ↦ command_memory word others other.1
 ]
 
 -- want of memory is no fault of a line

@@ -1,44 +1,47 @@
 -- The grammar of a line: what it asks for.
-use Rattle.std.specs.Prelude.{◌≡◌, ℕ, ◌+◌, ◌*◌, ◌^◌, ◌≤◌, ◌==◌, ◌||◌, ◌&&◌, nat_eq, nat_le, nat_lt, Bool, true, List, [], ◌∷◌, ◌++◌, length, drop, slice_index, codes, Option, Some, None, Ok, option_and_then, if◌then◌else◌}
-use Rattle.std.specs.List.{AllPass, starts_with}
-use Rattle.std.specs.Char.{digit_value}
-use Rattle.hex.specs.Hex.{decode_of}
+use Rattle.std.specs.Prelude.{◌≡◌, ℕ, ◌≤◌, ◌==◌, ◌||◌, ◌&&◌, nat_le, Bool, true, false, List, [], ◌∷◌, length, slice_index, codes, Some}
+use Rattle.std.specs.List.{AllPass}
 use Rattle.script_text.specs.Lines.{longest_line, words, content}
+use Rattle.script_text.specs.Numbers.{number_of}
+use Rattle.script_text.specs.Expressions.{Term, is_name, SpellsExpression}
 
--- what a line asks for: nothing, to extend a register by a text, or to read a register
+-- what a line asks for: nothing, to extend a register by a text, to read a register, to bind a name to a value, to
+-- show a value, or to bind a name to the image of some code
 pub data Request : Type 0 where
   Nothing : Request
-  ExtendBy : (r : ℕ) → (text : List ℕ) → Request
+  ExtendBy : (r : ℕ) → (text : List Term) → Request
   ReadOf : (r : ℕ) → Request
+  LetBe : (name : List ℕ) → (value : List Term) → Request
+  ShowOf : (value : List Term) → Request
+  ImageOf : (name : List ℕ) → (job : Bool) → (entry : ℕ) → (budget : ℕ) → (code : List Term) → Request
 
--- ---- numbers
+-- ---- words
 
--- the value of a digit in this radix
-abbrev pub digit_in : ℕ → ℕ → Option ℕ
-digit_in radix c = if nat_lt (digit_value c) radix then Some (digit_value c) else None
+-- what a word may stand for
+pub data Value : Type 0 where
+  ANumber : (n : ℕ) → Value
+  AName : (name : List ℕ) → Value
+  AKind : (job : Bool) → Value
+  AnExpression : (terms : List Term) → Value
 
--- the value of digits that stand behind digits of this value
-abbrev pub digits_value : ℕ → ℕ → List ℕ → Option ℕ
-digits_value radix value [] = Some value
-digits_value radix value (c ∷ cs) = option_and_then (λ d. digits_value radix (value * radix + d) cs) (digit_in radix c)
+-- an image of measured code, or of a job
+abbrev pub kind_word : Bool → List ℕ
+kind_word false = codes "pal"
+kind_word true = codes "job"
 
--- a value below 2 ^ 32
-abbrev pub fitting : ℕ → Option ℕ
-fitting value = if nat_lt value (2 ^ 32) then Some value else None
+-- the word spells the value
+abbrev pub Spells : Value → List ℕ → Type 0
+Spells (ANumber n) word = number_of word ≡ Some n
+Spells (AName name) word = (word ≡ name) × (is_name name ≡ true)
+Spells (AKind job) word = word ≡ kind_word job
+Spells (AnExpression terms) word = SpellsExpression terms word
 
--- the value of at least one and at most so many digits, where it is below 2 ^ 32
-abbrev pub sized : ℕ → ℕ → List ℕ → Option ℕ
-sized most radix digits = if nat_lt 0 (length digits) && nat_le (length digits) most then option_and_then fitting (digits_value radix 0 digits) else None
-
--- a Number: 1 to 10 decimal digits, or 0x and 1 to 8 hexadecimal digits of either case, with a value below 2 ^ 32
-abbrev pub number_of : List ℕ → Option ℕ
-number_of word = if starts_with nat_eq word (codes "0x") then sized 8 16 (drop 2 word) else sized 10 10 word
-
--- ---- expressions
-
--- an Expression with this value: x: and the bytes' hexadecimal digits, in either case
-abbrev pub IsExpression : List ℕ → List ℕ → Type 0
-IsExpression word value = (digits : List ℕ) × (word ≡ codes "x:" ++ digits) × (decode_of digits ≡ Ok value)
+-- the words spell the values, each word one
+abbrev pub SpellAll : List Value → List (List ℕ) → Type 0
+SpellAll [] [] = Unit {0}
+SpellAll [] (word ∷ words) = ⊥
+SpellAll (value ∷ values) [] = ⊥
+SpellAll (value ∷ values) (word ∷ words) = Spells value word × SpellAll values words
 
 -- ---- lines
 
@@ -51,12 +54,32 @@ abbrev pub is_remark : List (List ℕ) → Bool
 is_remark [] = true
 is_remark (word ∷ words) = slice_index word 0 == 35
 
+-- the word that begins a line, and the values of those behind it
+abbrev pub command_word : Request → List ℕ
+command_word Nothing = []
+command_word (ExtendBy r text) = codes "extend"
+command_word (ReadOf r) = codes "read"
+command_word (LetBe name value) = codes "let"
+command_word (ShowOf value) = codes "show"
+command_word (ImageOf name job entry budget code) = codes "image"
+
+abbrev pub arguments : Request → List Value
+arguments Nothing = []
+arguments (ExtendBy r text) = ANumber r ∷ AnExpression text ∷ []
+arguments (ReadOf r) = ANumber r ∷ []
+arguments (LetBe name value) = AName name ∷ AnExpression value ∷ []
+arguments (ShowOf value) = AnExpression value ∷ []
+arguments (ImageOf name job entry budget code) = AName name ∷ AKind job ∷ ANumber entry ∷ ANumber budget ∷ AnExpression code ∷ []
+
+-- the first word is the command's, and the others spell its arguments
+abbrev pub SpellsCommand : Request → List (List ℕ) → Type 0
+SpellsCommand request [] = ⊥
+SpellsCommand request (word ∷ others) = (word ≡ command_word request) × SpellAll (arguments request) others
+
 -- the words spell the request
 abbrev pub SpellsWords : Request → List (List ℕ) → Type 0
 SpellsWords Nothing ws = is_remark ws ≡ true
-SpellsWords (ExtendBy r text) ws = (number : List ℕ) × (expression : List ℕ)
-    × (ws ≡ codes "extend" ∷ number ∷ expression ∷ []) × (number_of number ≡ Some r) × IsExpression expression text
-SpellsWords (ReadOf r) ws = (number : List ℕ) × (ws ≡ codes "read" ∷ number ∷ []) × (number_of number ≡ Some r)
+SpellsWords request ws = SpellsCommand request ws
 
 -- the line, without its LF, spells the request
 pub record SpellsLine (request : Request) (line : List ℕ) : Type 0 where

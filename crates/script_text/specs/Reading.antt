@@ -1,14 +1,16 @@
 -- What a line asks for, or the first thing that is wrong with it: the checks in their order.
-use Rattle.std.specs.Prelude.{◌≡◌, ◌⊎◌, ℕ, nat_eq, nat_lt, List, [], ◌∷◌, length, drop, codes, Option, Some, None, Result, Ok, Err, if◌then◌else◌}
-use Rattle.std.specs.List.{list_all, starts_with}
+use Rattle.std.specs.Prelude.{◌≡◌, ◌⊎◌, ℕ, nat_lt, Bool, true, false, List, [], ◌∷◌, length, codes, Option, Some, None, Result, Ok, Err, if◌then◌else◌}
+use Rattle.std.specs.List.{list_all}
 use Rattle.std.specs.Str.{bytes_eq}
-use Rattle.hex.specs.Hex.{decode_of}
 use Rattle.script_text.specs.Lines.{longest_line, most_lines, words, content}
-use Rattle.script_text.specs.Grammar.{Request, Nothing, ExtendBy, ReadOf, number_of, is_printable, is_remark}
+use Rattle.script_text.specs.Numbers.{number_of}
+use Rattle.script_text.specs.Expressions.{Term, is_name}
+use Rattle.script_text.specs.ExpressionReading.{expression_of}
+use Rattle.script_text.specs.Grammar.{Request, Nothing, ExtendBy, ReadOf, LetBe, ShowOf, ImageOf, is_printable, is_remark}
 use Rattle.script_text.specs.declared.line.BadLine.{BadLine}
 use Rattle.script_text.specs.declared.line.BadLine.TheVariants.{Faulty, TooMany}
 use Rattle.script_text.specs.declared.line.LineFault.{LineFault}
-use Rattle.script_text.specs.declared.line.LineFault.TheVariants.{LongLine, Byte, Command, Count, Number, Expression, NoMemory}
+use Rattle.script_text.specs.declared.line.LineFault.TheVariants.{LongLine, Byte, Command, Count, Number, Expression, Name, NoMemory}
 
 infixl 10 ◌>>=◌
 -- the second check, where the first found no fault
@@ -21,39 +23,71 @@ abbrev pub or_fault : {A : Type 0} → Option A → LineFault → Result A LineF
 or_fault (Some x) fault = Ok x
 or_fault None fault = Err fault
 
--- what digits spell, or that they spell nothing
-abbrev pub decoded : {E : Type 0} → Result (List ℕ) E → Result (List ℕ) LineFault
-decoded (Ok bytes) = Ok bytes
-decoded (Err e) = Err Expression
+-- ---- one word
 
 -- a word that has to be a Number
 abbrev pub number_in : List ℕ → Result ℕ LineFault
 number_in word = or_fault (number_of word) Number
 
--- a word that has to be an Expression
-abbrev pub expression_in : List ℕ → Result (List ℕ) LineFault
-expression_in word = if starts_with nat_eq word (codes "x:") then decoded (decode_of (drop 2 word)) else Err Expression
+-- a word that has to be a Name
+abbrev pub name_in : List ℕ → Result (List ℕ) LineFault
+name_in word = if is_name word then Ok word else Err Name
 
--- each command: the number of its words, then the words from the left
+-- a word that has to be `pal` or `job`
+abbrev pub kind_in : List ℕ → Result Bool LineFault
+kind_in word = if bytes_eq word (codes "pal") then Ok false else if bytes_eq word (codes "job") then Ok true else Err Name
+
+-- a word that has to be an Expression
+abbrev pub expression_in : List ℕ → Result (List Term) LineFault
+expression_in word = or_fault (expression_of word) Expression
+
+-- ---- so many words
+
+abbrev pub one_of : List (List ℕ) → Result (List ℕ) LineFault
+one_of (a ∷ []) = Ok a
+one_of other = Err Count
+
+abbrev pub two_of : List (List ℕ) → Result (List ℕ × List ℕ) LineFault
+two_of (a ∷ b ∷ []) = Ok (a, b)
+two_of other = Err Count
+
+abbrev pub five_of : List (List ℕ) → Result (List ℕ × List ℕ × List ℕ × List ℕ × List ℕ) LineFault
+five_of (a ∷ b ∷ c ∷ d ∷ e ∷ []) = Ok (a, b, c, d, e)
+five_of other = Err Count
+
+-- ---- each command: the number of its words, then the words from the left
+
 abbrev pub extend_in : List (List ℕ) → Result Request LineFault
-extend_in (number ∷ expression ∷ []) = number_in number >>= λ r. expression_in expression >>= λ text. Ok (ExtendBy r text)
-extend_in other = Err Count
+extend_in others = two_of others >>= λ w. number_in w.0 >>= λ r. expression_in w.1 >>= λ text. Ok (ExtendBy r text)
 
 abbrev pub read_in : List (List ℕ) → Result Request LineFault
-read_in (number ∷ []) = number_in number >>= λ r. Ok (ReadOf r)
-read_in other = Err Count
+read_in others = one_of others >>= λ w. number_in w >>= λ r. Ok (ReadOf r)
+
+abbrev pub let_in : List (List ℕ) → Result Request LineFault
+let_in others = two_of others >>= λ w. name_in w.0 >>= λ name. expression_in w.1 >>= λ value. Ok (LetBe name value)
+
+abbrev pub show_in : List (List ℕ) → Result Request LineFault
+show_in others = one_of others >>= λ w. expression_in w >>= λ value. Ok (ShowOf value)
+
+abbrev pub image_in : List (List ℕ) → Result Request LineFault
+image_in others =
+    five_of others >>= λ w. name_in w.0 >>= λ name. kind_in w.1 >>= λ job. number_in w.2 >>= λ entry.
+    number_in w.3 >>= λ budget. expression_in w.4 >>= λ code. Ok (ImageOf name job entry budget code)
 
 -- the command, then what stands behind it
 abbrev pub command_in : List ℕ → List (List ℕ) → Result Request LineFault
-command_in word arguments =
-    if bytes_eq word (codes "extend") then extend_in arguments
-    else if bytes_eq word (codes "read") then read_in arguments
+command_in word others =
+    if bytes_eq word (codes "extend") then extend_in others
+    else if bytes_eq word (codes "read") then read_in others
+    else if bytes_eq word (codes "let") then let_in others
+    else if bytes_eq word (codes "show") then show_in others
+    else if bytes_eq word (codes "image") then image_in others
     else Err Command
 
 -- the words of a line
 abbrev pub words_in : List (List ℕ) → Result Request LineFault
 words_in [] = Ok Nothing
-words_in (word ∷ arguments) = if is_remark (word ∷ arguments) then Ok Nothing else command_in word arguments
+words_in (word ∷ others) = if is_remark (word ∷ others) then Ok Nothing else command_in word others
 
 -- a line: its length, its bytes, then its words
 abbrev pub reading : List ℕ → Result Request LineFault

@@ -1,10 +1,25 @@
 -- What contracts see of an event.
-use Rattle.script_text.specs.Grammar.{Request, Nothing, ExtendBy, ReadOf}
+use Rattle.std.specs.Prelude.{◌≤◌, length, ℕ, List}
+use Rattle.script_text.specs.Grammar.{Request, Nothing, ExtendBy, ReadOf, LetBe, ShowOf, ImageOf}
 use Rattle.script_text.specs.declared.line.Event.{Event}
-use Rattle.script_text.specs.declared.line.Event.TheVariants.{Blank, Extend, Read}
+use Rattle.script_text.specs.declared.line.Event.TheVariants.{Blank, Extend, Read, Let, Show, Image}
 
 -- what the event asks for
 abbrev pub request_of : Event → Request
 request_of Blank = Nothing
-request_of (Extend r text) = ExtendBy r text.bytes
+request_of (Extend r text) = ExtendBy r text
 request_of (Read r) = ReadOf r
+request_of (Let var value) = LetBe var.bytes value
+request_of (Show value) = ShowOf value
+request_of (Image var job entry budget code) = ImageOf var.bytes job entry budget code
+
+-- 1 to 16 bytes
+pub record IsShortName (name : List ℕ) : Type 0 where
+  pub some : 1 ≤ length name
+  pub short : length name ≤ 16
+
+-- the name that a request binds has 1 to 16 bytes
+abbrev pub HasShortName : Request → Type 0
+HasShortName (LetBe name value) = IsShortName name
+HasShortName (ImageOf name job entry budget code) = IsShortName name
+HasShortName _ = Unit {0}

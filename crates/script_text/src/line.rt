@@ -1,13 +1,16 @@
 // What a line asks for.
-ghost use Rattle.std.specs.Prelude.{◌≡◌, ◌≢◌, ◌↔◌, ◌⊎◌, ◌==◌, ◌∷◌, ℕ, List, nat_eq, codes, IsTrue, slice_index, IfOk, Ok, Err};
-ghost use Rattle.std.specs.List.{list_all, starts_with};
-ghost use Rattle.script_text.specs.Grammar.{Request, SpellsLine, is_printable, number_of};
-ghost use Rattle.script_text.specs.Reading.{Gives, reading, words_in, command_in, extend_in, read_in, number_in, expression_in};
-ghost use Rattle.script_text.specs.Seen.{request_of};
+ghost use Rattle.std.specs.Prelude.{◌≡◌, ◌≢◌, ◌↔◌, ℕ, List, IfOk, Ok, Err};
+ghost use Rattle.std.specs.List.{list_all};
+ghost use Rattle.script_text.specs.Expressions.{is_name};
+ghost use Rattle.script_text.specs.Grammar.{Request, SpellsLine, is_printable};
+ghost use Rattle.script_text.specs.Reading.{Gives, reading, words_in, command_in, extend_in, read_in, let_in, show_in, image_in, number_in, name_in, kind_in, expression_in};
+ghost use Rattle.script_text.specs.Seen.{request_of, HasShortName};
 
+use crate::expression::{self, Expr, Unread};
 use crate::numbers::number_of;
-use crate::words::{Words, content};
-use flk_base::{Bytes, HexFault, read_hex};
+use crate::spelling::is_name;
+use crate::words::{Words, content, five, one, two};
+use flk_base::Bytes;
 use std::alloc::Global;
 
 /// The most bytes that a line may have, without its LF.
@@ -18,10 +21,35 @@ pub(crate) const LONGEST_LINE: usize = 16_384;
 pub enum Event {
     /// Nothing: the line has no words, or is a comment.
     Blank,
-    /// To extend register `r` by the text `host` and these bytes.
-    Extend { r: u32, text: Bytes },
+    /// To extend register `r` by the text `host` and a value.
+    Extend {
+        r: u32,
+        text: Expr,
+    },
     /// To show the value of register `r`.
-    Read { r: u32 },
+    Read {
+        r: u32,
+    },
+    /// To bind a name to a value.
+    Let {
+        var: Bytes,
+        value: Expr,
+    },
+    /// To show a value.
+    Show {
+        value: Expr,
+    },
+    /// To bind a name to the image of some code.
+    Image {
+        var: Bytes,
+        /// Whether it is the image of a job.
+        job: bool,
+        /// The offset of the first instruction.
+        entry: u32,
+        /// How many turns a session of it has.
+        budget: u32,
+        code: Expr,
+    },
 }
 
 /// The first thing that is wrong with a line, in the order of the checks.
@@ -74,6 +102,8 @@ pub fn read_line(alloc: Global, bytes: &[u8]) -> Result<Event, LineFault>
     ensures only { (request : Request) → SpellsLine request bytes.now → Gives request_of result (Ok request) }
     // Which fault it is: the first in the order of the checks.
     ensures exact { Gives request_of result (reading bytes.now) }
+    // A name that is bound has 1 to 16 bytes.
+    ensures name { IfOk result (λ event. HasShortName (request_of event)) }
 {
     first_fault(alloc, bytes)
 }
@@ -116,39 +146,67 @@ fn read_command(alloc: Global, command: &[u8], words: Words<'_>) -> Result<Event
         read_extend(alloc, words)
     } else if command == b"read".as_slice() {
         read_read(words)
+    } else if command == b"let".as_slice() {
+        read_let(alloc, words)
+    } else if command == b"show".as_slice() {
+        read_show(alloc, words)
+    } else if command == b"image".as_slice() {
+        read_image(alloc, words)
     } else {
         Err(LineFault::Command)
     }
 }
 
-fn read_extend(alloc: Global, mut words: Words<'_>) -> Result<Event, LineFault>
+fn read_extend(alloc: Global, words: Words<'_>) -> Result<Event, LineFault>
     ensures { Gives request_of result (extend_in words.entry) }
 {
-    let Some(number) = words.next() else {
-        return Err(LineFault::Count);
-    };
-    let Some(expression) = words.next() else {
-        return Err(LineFault::Count);
-    };
-    if words.next().is_some() {
-        return Err(LineFault::Count);
-    }
+    let (number, expression) = two(words)?;
     let r = number_in(number)?;
     let text = expression_in(alloc, expression)?;
     Ok(Event::Extend { r, text })
 }
 
-fn read_read(mut words: Words<'_>) -> Result<Event, LineFault>
+fn read_read(words: Words<'_>) -> Result<Event, LineFault>
     ensures { Gives request_of result (read_in words.entry) }
 {
-    let Some(number) = words.next() else {
-        return Err(LineFault::Count);
-    };
-    if words.next().is_some() {
-        return Err(LineFault::Count);
-    }
+    let number = one(words)?;
     let r = number_in(number)?;
     Ok(Event::Read { r })
+}
+
+fn read_let(alloc: Global, words: Words<'_>) -> Result<Event, LineFault>
+    ensures { Gives request_of result (let_in words.entry) }
+{
+    let (name, expression) = two(words)?;
+    let var = name_in(alloc, name)?;
+    let value = expression_in(alloc, expression)?;
+    Ok(Event::Let { var, value })
+}
+
+fn read_show(alloc: Global, words: Words<'_>) -> Result<Event, LineFault>
+    ensures { Gives request_of result (show_in words.entry) }
+{
+    let expression = one(words)?;
+    let value = expression_in(alloc, expression)?;
+    Ok(Event::Show { value })
+}
+
+fn read_image(alloc: Global, words: Words<'_>) -> Result<Event, LineFault>
+    ensures { Gives request_of result (image_in words.entry) }
+{
+    let (name, kind, entry, budget, expression) = five(words)?;
+    let var = name_in(alloc, name)?;
+    let job = kind_in(kind)?;
+    let entry = number_in(entry)?;
+    let budget = number_in(budget)?;
+    let code = expression_in(alloc, expression)?;
+    Ok(Event::Image {
+        var,
+        job,
+        entry,
+        budget,
+        code,
+    })
 }
 
 fn number_in(word: &[u8]) -> Result<u32, LineFault>
@@ -157,16 +215,37 @@ fn number_in(word: &[u8]) -> Result<u32, LineFault>
     number_of(word).ok_or(LineFault::Number)
 }
 
-fn expression_in(alloc: Global, word: &[u8]) -> Result<Bytes, LineFault>
-    ensures { Gives (λ read. read.bytes) result (expression_in word.now) }
+fn name_in(alloc: Global, word: &[u8]) -> Result<Bytes, LineFault>
+    ensures { Gives (λ name. name.bytes) result (name_in word.now) }
 {
-    if !word.starts_with(b"x:") {
-        return Err(LineFault::Expression);
+    if !is_name(word) {
+        return Err(LineFault::Name);
     }
-    match read_hex(alloc, &word[2..]) {
-        Ok(bytes) => Ok(bytes),
-        Err(HexFault::NoMemory) => Err(LineFault::NoMemory),
-        Err(HexFault::Odd) => Err(LineFault::Expression),
-        Err(HexFault::Digit) => Err(LineFault::Expression),
+    let mut name = Bytes::new(alloc);
+    match name.push_all(word) {
+        Ok(()) => Ok(name),
+        Err(_) => Err(LineFault::NoMemory),
+    }
+}
+
+fn kind_in(word: &[u8]) -> Result<bool, LineFault>
+    ensures { result ≡ kind_in word.now }
+{
+    if word == b"pal".as_slice() {
+        Ok(false)
+    } else if word == b"job".as_slice() {
+        Ok(true)
+    } else {
+        Err(LineFault::Name)
+    }
+}
+
+fn expression_in(alloc: Global, word: &[u8]) -> Result<Expr, LineFault>
+    ensures { Gives (λ expression. expression) result (expression_in word.now) }
+{
+    match expression::expression_in(alloc, word) {
+        Ok(expression) => Ok(expression),
+        Err(Unread::Spelling) => Err(LineFault::Expression),
+        Err(Unread::NoMemory) => Err(LineFault::NoMemory),
     }
 }

@@ -1,23 +1,58 @@
 // Lines and what they ask for: each fault once, and two faults in one line, of which the first is told.
+use crate::expression::Expr;
 use crate::line::{Event, read_line};
+use crate::vars::Vars;
 use std::test::Fail;
+
+// The value of an expression without names, in words.
+fn value(rt: &HostRuntime, expression: &Expr) -> Result<String, Fail> {
+    match expression.value(rt.alloc(), &Vars::new(rt.alloc())) {
+        Ok(value) => {
+            let bytes = value.as_slice();
+            Ok(format!(in rt.alloc(); "{bytes:?}")?)
+        }
+        Err(fault) => Ok(format!(in rt.alloc(); "{fault:?}")?),
+    }
+}
 
 // What a line gave, in words.
 fn told(rt: &HostRuntime, line: &[u8]) -> Result<String, Fail> {
     match read_line(rt.alloc(), line) {
         Ok(Event::Blank) => Ok(String::from_str(rt.alloc(), "blank")?),
         Ok(Event::Extend { r, text }) => {
-            let bytes = text.as_slice();
-            Ok(format!(in rt.alloc(); "extend {r} {bytes:?}")?)
+            let text = value(rt, &text)?;
+            Ok(format!(in rt.alloc(); "extend {r} {text}")?)
         }
         Ok(Event::Read { r }) => Ok(format!(in rt.alloc(); "read {r}")?),
+        Ok(Event::Let { var, value: bound }) => {
+            let name = var.as_slice();
+            let bound = value(rt, &bound)?;
+            Ok(format!(in rt.alloc(); "let {name:?} {bound}")?)
+        }
+        Ok(Event::Show { value: shown }) => {
+            let shown = value(rt, &shown)?;
+            Ok(format!(in rt.alloc(); "show {shown}")?)
+        }
+        Ok(
+            Event::Image {
+                var,
+                job,
+                entry,
+                budget,
+                code,
+            },
+        ) => {
+            let name = var.as_slice();
+            let code = value(rt, &code)?;
+            Ok(format!(in rt.alloc(); "image {name:?} {job} {entry} {budget} {code}")?)
+        }
         Err(fault) => Ok(format!(in rt.alloc(); "{fault:?}")?),
     }
 }
 
 #[test]
 fn lines(rt: HostRuntime) -> Result<(), Fail> {
-    let rows: [(&str, &str); 32] = [
+    let rows: [(&str, &str); 45] = [
         ("", "blank"),
         (" \t ", "blank"),
         ("\r", "blank"),
@@ -37,7 +72,7 @@ fn lines(rt: HostRuntime) -> Result<(), Fail> {
         ("reed 1\x7f", "Byte"),
         ("reed", "Command"),
         ("Read 1", "Command"),
-        ("let v x:00", "Command"),
+        ("Let v x:00", "Command"),
         ("reed 1 2 3", "Command"),
         ("read", "Count"),
         ("read 1 2", "Count"),
@@ -50,6 +85,19 @@ fn lines(rt: HostRuntime) -> Result<(), Fail> {
         ("extend -1 y:", "Number"),
         ("extend 1 x:0", "Expression"),
         ("extend 1 x:0g", "Expression"),
+        ("let rep x:0102", "let [114, 101, 112] [1, 2]"),
+        ("let v v+x:00", "let [118] Name"),
+        ("let 9 v", "Name"),
+        ("let v", "Count"),
+        ("show rep:0a*2~1", "show [10, 11]"),
+        ("show x", "show Name"),
+        ("show", "Count"),
+        ("image m job 0x20 3 x:90", "image [109] true 32 3 [144]"),
+        ("image m pal 32 3 x:", "image [109] false 32 3 []"),
+        ("image m pul 32 3 x:90", "Name"),
+        ("image M pul a 3 x:90", "Name"),
+        ("image m pal a 3 y:", "Number"),
+        ("image m pal 32 3", "Count"),
     ];
     for (line, wanted) in rows {
         let got = told(&rt, line.as_bytes())?;

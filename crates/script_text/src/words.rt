@@ -1,9 +1,11 @@
 // The words of a line.
-ghost use Rattle.std.specs.Prelude.{◌≡◌, ◌≤◌, List, [], ◌∷◌, length, not, MatchOption};
+ghost use Rattle.std.specs.Prelude.{◌≡◌, ◌≢◌, ◌≤◌, List, [], ◌∷◌, length, not, MatchOption, MatchResult};
 ghost use Rattle.std.specs.List.{prefix_len};
 ghost use Rattle.script_text.specs.Lines.{is_blank, words, content};
 ghost use Rattle.script_text.specs.Words.{IsFirstWord};
+ghost use Rattle.script_text.specs.Reading.{one_of, two_of, five_of, Gives};
 
+use crate::line::LineFault;
 use std::marker::Model;
 
 const CR: u8 = b'\r';
@@ -67,6 +69,64 @@ impl<'a> Words<'a> {
         self.rest = rest;
         if word.is_empty() { None } else { Some(word) }
     }
+}
+
+// The next word, where there is one.
+fn next<'a>(words: &mut Words<'a>) -> Result<&'a [u8], LineFault>
+    ensures { MatchResult result
+        (λ word. words.old ≡ word.now ∷ words.new)
+        (λ fault. (fault ≡ LineFault.Count) × (words.old ≡ [])) }
+{
+    match words.next() {
+        Some(word) => Ok(word),
+        None => Err(LineFault::Count),
+    }
+}
+
+// No word is left.
+fn end(mut words: Words<'_>) -> Result<(), LineFault>
+    ensures { MatchResult result
+        (λ _. words.entry ≡ [])
+        (λ fault. (fault ≡ LineFault.Count) × (words.entry ≢ [])) }
+{
+    match words.next() {
+        Some(_) => Err(LineFault::Count),
+        None => Ok(()),
+    }
+}
+
+/// The one word that is left.
+pub(crate) fn one<'a>(mut words: Words<'a>) -> Result<&'a [u8], LineFault>
+    ensures { Gives (λ w. w.now) result (one_of words.entry) }
+{
+    let a = next(&mut words)?;
+    end(words)?;
+    Ok(a)
+}
+
+/// The two words that are left.
+pub(crate) fn two<'a>(mut words: Words<'a>) -> Result<(&'a [u8], &'a [u8]), LineFault>
+    ensures { Gives (λ w. (w.0.now, w.1.now)) result (two_of words.entry) }
+{
+    let a = next(&mut words)?;
+    let b = next(&mut words)?;
+    end(words)?;
+    Ok((a, b))
+}
+
+/// The five words that are left.
+pub(crate) fn five<'a>(
+    mut words: Words<'a>,
+) -> Result<(&'a [u8], &'a [u8], &'a [u8], &'a [u8], &'a [u8]), LineFault>
+    ensures { Gives (λ w. (w.0.now, w.1.now, w.2.now, w.3.now, w.4.now)) result (five_of words.entry) }
+{
+    let a = next(&mut words)?;
+    let b = next(&mut words)?;
+    let c = next(&mut words)?;
+    let d = next(&mut words)?;
+    let e = next(&mut words)?;
+    end(words)?;
+    Ok((a, b, c, d, e))
 }
 
 // The first word and what stands behind it; an empty one where there is none.

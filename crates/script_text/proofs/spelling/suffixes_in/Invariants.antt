@@ -1,0 +1,13 @@
+use Rattle.std.proofs.Common.{◌≡◌, length}
+use Rattle.script_text.specs.ExpressionReading.{all_of, suffix_in}
+use Rattle.script_text.specs.Pieces.{suffix_words}
+use Rattle.script_text.specs.SeenExpressions.{seen_suffixes}
+use Rattle.script_text.proofs.AllOfLemmas.{behind}
+use Rattle.script_text.proofs.spelling.suffixes_in.Given as goal
+
+-- the suffixes that were read and those to come are those of the text
+abbrev pub invariant-loop-word : goal.invariant-loop-word
+invariant-loop-word l = behind (seen_suffixes l.suffixes.items) (all_of suffix_in l.words) ≡ all_of suffix_in (suffix_words l.text)
+
+abbrev pub decreases-loop-word : goal.decreases-loop-word
+decreases-loop-word l = length l.words

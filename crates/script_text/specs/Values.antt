@@ -1,0 +1,57 @@
+-- The value of an expression.
+use Rattle.std.specs.Prelude.{◌≡◌, ◌⊎◌, ℕ, ◌+◌, nat_le, nat_lt, ◌&&◌, List, [], ◌∷◌, ◌++◌, length, replicate, slice_index, slice_range, slice_set, bit_xor, Result, Ok, Err, if◌then◌else◌}
+use Rattle.std.specs.Option.{ok_or}
+use Rattle.std.specs.FinMap.{get}
+use Rattle.script_text.specs.Expressions.{Atom, Literal, Repeated, Named, Suffix, Cut, Flip, Term}
+use Rattle.script_text.specs.Variables.{Table}
+use Rattle.script_text.specs.declared.value.ExprFault.{ExprFault}
+use Rattle.script_text.specs.declared.value.ExprFault.TheVariants.{Name, Range, Long, NoMemory}
+
+-- the most bytes that a term may have, and the sum of terms
+abbrev pub longest_value : ℕ
+longest_value = 65536
+
+infixl 10 ◌>>=◌
+-- the second step, where the first found no fault
+abbrev pub ◌>>=◌ : {A B : Type 0} → Result A ExprFault → (A → Result B ExprFault) → Result B ExprFault
+Ok x >>= f = f x
+Err e >>= f = Err e
+
+-- an atom: a name has the value that it is bound to
+abbrev pub atom_value : Table → Atom → Result (List ℕ) ExprFault
+atom_value table (Literal bytes) = Ok bytes
+atom_value table (Repeated byte count) = Ok (replicate count byte)
+atom_value table (Named name) = ok_or (get table name) Name
+
+-- a byte with its lowest bit flipped
+abbrev pub flipped : ℕ → ℕ
+flipped byte = bit_xor byte 1
+
+-- what a suffix makes of a value: a cut may be empty and may end at the last byte
+abbrev pub suffixed : Suffix → List ℕ → Result (List ℕ) ExprFault
+suffixed (Cut from to) bytes = if nat_le from to && nat_le to (length bytes) then Ok (slice_range bytes from to) else Err Range
+suffixed (Flip at) bytes = if nat_lt at (length bytes) then Ok (slice_set bytes at (flipped (slice_index bytes at))) else Err Range
+
+-- what suffixes make of it, from the left
+abbrev pub all_suffixed : List Suffix → List ℕ → Result (List ℕ) ExprFault
+all_suffixed [] bytes = Ok bytes
+all_suffixed (suffix ∷ suffixes) bytes = suffixed suffix bytes >>= all_suffixed suffixes
+
+-- a term: an atom alone may be longer than a term
+abbrev pub term_value : Table → Term → Result (List ℕ) ExprFault
+term_value table term = atom_value table term.atom >>= all_suffixed term.suffixes
+
+-- the sum of these bytes and of terms, from the left; it may not grow too long
+abbrev pub sum_value : Table → List ℕ → List Term → Result (List ℕ) ExprFault
+sum_value table sum [] = Ok sum
+sum_value table sum (term ∷ terms) =
+    term_value table term >>= λ bytes. if nat_le (length sum + length bytes) longest_value then sum_value table (sum ++ bytes) terms else Err Long
+
+-- the value of an expression, or its first fault from the left
+abbrev pub value_of : List Term → Table → Result (List ℕ) ExprFault
+value_of terms table = sum_value table [] terms
+
+-- what a function returned, seen by view, is this value or fault, unless memory ran out
+abbrev pub Evaluates : {X Y : Type 0} → (X → Y) → Result X ExprFault → Result Y ExprFault → Type 0
+Evaluates view (Ok x) value = value ≡ Ok (view x)
+Evaluates view (Err fault) value = (fault ≡ NoMemory) ⊎ (value ≡ Err fault)

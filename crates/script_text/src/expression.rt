@@ -1,0 +1,107 @@
+// Expressions, and how they are read from a word.
+ghost use Rattle.std.specs.Prelude.{◌≡◌, ◌≢◌, ◌↔◌, ◌≤◌, ℕ, List, length, IfOk, Some, Err};
+ghost use Rattle.script_text.specs.Expressions.{Term, SpellsExpression};
+ghost use Rattle.script_text.specs.ExpressionReading.{Reads, expression_of};
+ghost use Rattle.script_text.specs.Values.{Evaluates, longest_value, value_of};
+ghost use Rattle.script_text.specs.Variables.{Table};
+
+use crate::name::Name;
+use crate::spelling::terms_in;
+use crate::value::{ExprFault, value_of};
+use crate::vars::Vars;
+use flk_base::Bytes;
+use std::alloc::Global;
+use std::marker::Model;
+
+#[cfg(test)]
+mod tests;
+
+/// What a term begins with.
+#[derive(Drop)]
+pub(crate) enum ExprAtom {
+    /// These bytes.
+    Literal(Bytes),
+    /// One byte, so many times.
+    Repeated { byte: u8, count: u32 },
+    /// The value of a name.
+    Named(Name),
+}
+
+/// What is done to a value.
+#[derive(Clone, Copy)]
+pub(crate) enum ExprSuffix {
+    /// To keep the bytes from a place up to another.
+    Cut { from: u32, to: u32 },
+    /// To flip the lowest bit of the byte at a place.
+    Flip { at: u32 },
+}
+
+/// An atom, and what is done to its value, from the left.
+#[derive(Drop)]
+pub(crate) struct ExprTerm {
+    pub(crate) atom: ExprAtom,
+    pub(crate) suffixes: Vec<ExprSuffix>,
+}
+
+/// An expression: terms, whose values follow one another. Contracts see the list of terms.
+#[derive(Drop)]
+pub struct Expr {
+    terms: Vec<ExprTerm>,
+}
+
+impl Model for Expr {
+    ghost use Rattle.std.specs.Prelude.{List};
+    ghost use Rattle.script_text.specs.Expressions.{Term};
+
+    ghost Value = { List Term };
+
+    ghost use Rattle.script_text.specs.SeenExpressions.{seen_terms};
+
+    ghost view = { λ e. seen_terms e.terms.items };
+}
+
+/// Why a word is not read as an expression.
+#[derive(Clone, Copy, Debug, PartialEq, Eq)]
+pub(crate) enum Unread {
+    /// It spells none.
+    Spelling,
+    /// There was no memory for the expression.
+    NoMemory,
+}
+
+impl Expr {
+    /// The value of the expression, or the first fault from the left. It takes memory for the value alone.
+    pub fn value(&self, alloc: Global, vars: &Vars) -> Result<Bytes, ExprFault>
+        ensures exact { Evaluates (λ made. made.bytes) result (value_of self.now vars.now.table) }
+        ensures short { IfOk result (λ made. length made.bytes ≤ longest_value) }
+    {
+        value_of(alloc, self.terms.as_slice(), vars)
+    }
+}
+
+/// The expression that the word spells.
+pub(crate) fn expression_in(alloc: Global, word: &[u8]) -> Result<Expr, Unread>
+    // What is read is spelled so.
+    ensures spelled { IfOk result (λ expression. SpellsExpression expression word.now) }
+    // What is spelled so is read, unless memory runs out.
+    ensures only { (terms : List Term) → SpellsExpression terms word.now → Reads (λ expression. expression) result (Some terms) }
+    // What it gives is what the word's own reading is.
+    ensures exact { Reads (λ expression. expression) result (expression_of word.now) }
+{
+    read(alloc, word)
+}
+
+/// No word spells two expressions, what a word spells is what reading it gives, and want of memory is no fault
+/// of an expression.
+pub fn one_expression()
+    ensures one { (word : List ℕ) (a : List Term) (b : List Term) → SpellsExpression a word → SpellsExpression b word → a ≡ b }
+    ensures read { (word : List ℕ) (terms : List Term) → SpellsExpression terms word ↔ (expression_of word ≡ Some terms) }
+    ensures memory { (terms : List Term) (table : Table) → value_of terms table ≢ Err ExprFault.NoMemory }
+{}
+
+fn read(alloc: Global, word: &[u8]) -> Result<Expr, Unread>
+    ensures { Reads (λ expression. expression) result (expression_of word.now) }
+{
+    let terms = terms_in(alloc, word)?;
+    Ok(Expr { terms })
+}
