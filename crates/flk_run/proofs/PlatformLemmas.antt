@@ -1,13 +1,19 @@
 -- What an extend does to the values of chains.
-use Rattle.std.proofs.Common.{◌≡◌, ℕ, ◌<◌, ◌≤◌, true, List, [], ◌++◌, length, map, sym, ap, ◌∙◌, arith}
-use Rattle.std.specs.Prelude.{slice_index_or, slice_set, nat_lt}
+use Rattle.std.proofs.Common.{◌≡◌, ℕ, ◌<◌, ◌≤◌, true, List, [], ◌++◌, length, map, refl, sym, ap, subst, ◌∙◌, arith}
+use Rattle.std.specs.Prelude.{◌∷◌, ◌==◌, slice_index_or, slice_set, nat_lt, Option, Some, None, Result, Ok, Err, ◌↔◌}
+use Rattle.slb_image.specs.declared.fault.ImageFault.{ImageFault}
 use Rattle.std.proofs.lemmas.List.{map-set, get_or-map, length-set}
 use Rattle.std.proofs.lemmas.Bool.Decides.{nat_tests}
 use Rattle.tpm_state.specs.Chain.{Chain, ◌▷◌, extended, value, chain_of, with_text, launch_chain, register_count}
-use Rattle.script_text.specs.Grammar.{ExtendBy}
+use Rattle.script_text.specs.Variables.{Table}
 use Rattle.flk_run.specs.declared.board.SimDisk.{SimDisk}
-use Rattle.flk_run.specs.Platform.{Platform, after, host_front}
-use Rattle.flk_run.specs.Parts.{BoardParts, Stands}
+use Rattle.flk_run.specs.Platform.{Platform}
+use Rattle.script_text.specs.Grammar.{Request}
+use Rattle.flk_run.specs.Answers.{Done, line_of}
+use Rattle.flk_run.specs.Tasks.{Task, task_of}
+use Rattle.flk_run.specs.Events.{host_front, extended_by_host, done, step}
+use Rattle.flk_run.specs.Parts.{BoardParts, Experiment, IsAt, experiment}
+use Rattle.flk_run.specs.Seen.{StepDone}
 
 -- an extend of the values is one of the chains
 extended_chains : (chains : List Chain) (r : ℕ) (text : List ℕ) → r < length chains
@@ -16,17 +22,49 @@ extended_chains chains r text h =
     let at : slice_index_or (map value chains) r [] ≡ value (chain_of chains r) = get_or-map value chains r launch_chain [] h in
     ap (λ v. slice_set (map value chains) r (extended v text)) at ∙ sym (map-set value chains r (chain_of chains r ▷ text))
 
--- a board whose register was extended stands for the platform after it
-pub stands_extended : (p : Platform) (board new : BoardParts) (disk : SimDisk) (r : ℕ) (text : List ℕ) → Stands p (record { board = board; disk = disk }) → (register_count ≤ r → ⊥)
+-- a board whose register was extended holds the chains of which that one has grown
+pub stands_extended : (p : Platform) (board new : BoardParts) (disk : SimDisk) (table : Table) (r : ℕ) (text : List ℕ) → IsAt p (experiment board disk table) → r < register_count
     → new.registers ≡ slice_set board.registers r (extended (slice_index_or board.registers r []) (host_front ++ text))
-    → Stands (after (ExtendBy r text) p) (record { board = new; disk = disk })
-stands_extended p board new disk r text s few n =
-    let at : r < length p.chains = omega (arith, s.count) in
-    let is : nat_lt r register_count ≡ true = grind (arith, nat_tests) in
-    rw is (record {
-      count = length-set p.chains r _ ∙ s.count;
-      registers =
-          n
-          ∙ ap (λ vs. slice_set vs r (extended (slice_index_or vs r []) (host_front ++ text))) s.registers
-          ∙ extended_chains p.chains r (host_front ++ text) at;
-    })
+    → IsAt (record p { chains = with_text p.chains r (host_front ++ text) }) (experiment new disk table)
+stands_extended p board new disk table r text s few n =
+    let at : r < length p.chains = omega (arith, s.stands.count) in
+    record {
+      stands = record {
+        count = length-set p.chains r _ ∙ s.stands.count;
+        registers =
+            n
+            ∙ ap (λ vs. slice_set vs r (extended (slice_index_or vs r []) (host_front ++ text))) s.stands.registers
+            ∙ extended_chains p.chains r (host_front ++ text) at;
+      };
+      variables = s.variables;
+    }
+
+-- the step of a host's extend
+pub extend_done : (n : ℕ) (p : Platform) (board new : BoardParts) (disk : SimDisk) (table : Table) (r : ℕ) (text out out' : List ℕ) → IsAt p (experiment board disk table) → (register_count ≤ r → ⊥)
+    → new.registers ≡ slice_set board.registers r (extended (slice_index_or board.registers r []) (host_front ++ text)) → out' ≡ out ++ line_of n Done
+    → StepDone n (extended_by_host r text p) (experiment new disk table) out out'
+extend_done n p board new disk table r text out out' s few grown written =
+    let at : r < register_count = omega arith in
+    let is : nat_lt r register_count ≡ true = grind (arith, nat_tests, at) in
+    rw is (record { at = stands_extended p board new disk table r text s at grown; written = written })
+
+-- an event is done where the task is done that it comes to
+pub event_done : (n : ℕ) (request : Request) (p : Platform) (task : Task) (old new : Experiment) (out made out' : List ℕ) → IsAt p old → task ≡ task_of request old.variables → made ≡ out
+    → StepDone n (done task p) new made out' → StepDone n (step request p) new out out'
+event_done n request p task old new out made out' s is same d =
+    let e : task ≡ task_of request p.variables = is ∙ ap (task_of request) s.variables in
+    subst (λ (t : Task). StepDone n (done t p) new out out') e (subst (λ (xs : List ℕ). StepDone n (done task p) new xs out') same d)
+
+-- values for which no fault is answered have none
+pub has_image : {T E : Type 0} (view : ImageFault → E) (r : Result T E) (made : T) (fault : Option ImageFault) → r ≡ Ok made
+    → ((f : ImageFault) → (r ≡ Err (view f)) ↔ (fault ≡ Some f)) → fault ≡ None
+has_image view r made None is only = refl
+has_image view r made (Some f) is only = let e = (only f).1 refl in cc
+
+nothing : (xs : List ℕ) → length xs ≡ 0 → xs ≡ []
+nothing [] h = refl
+nothing (x ∷ xs) h = absurd (omega (arith, h))
+
+-- an answer without bytes is no line
+pub no_line : (line made : List ℕ) → made ≡ line → true ≡ (length made == 0) → line ≡ []
+no_line line made same empty = sym same ∙ nothing made (grind (arith, nat_tests, empty))

@@ -1,4 +1,4 @@
--- How far a run came, line by line, and what its ends say. The run began with machine `from`, and stands at
+-- How far a run came, line by line, and what its ends say. The run began with experiment `from`, and is at
 -- `at`, where it has written to `b` of what out held, `a`.
 use Rattle.std.proofs.Common.{◌≡◌, ◌≢◌, inl, inr, ℕ, ◌+◌, ◌-◌, ◌<◌, ◌≤◌, Bool, true, false, List, [], ◌∷◌, ◌++◌, length, refl, sym, ap, subst, ◌∙◌, append_assoc, append-nil, length-append, arith}
 use Rattle.std.specs.Prelude.{Option, Some, None, Ok, Err}
@@ -17,8 +17,9 @@ use Rattle.script_text.specs.declared.line.LineFault.TheVariants as fault
 use Rattle.script_text.proofs.LineLemmas.{long_first, some_first}
 use Rattle.flk_run.specs.declared.run.LineRun.{LineRun}
 use Rattle.flk_run.specs.declared.run.LineRun.TheVariants as run
-use Rattle.flk_run.specs.Platform.{Platform, transcript_line, transcript, after_all}
-use Rattle.flk_run.specs.Parts.{Machine, Stands}
+use Rattle.flk_run.specs.Platform.{Platform}
+use Rattle.flk_run.specs.Events.{transcript_line, transcript, after_all}
+use Rattle.flk_run.specs.Parts.{Experiment, IsAt}
 use Rattle.flk_run.specs.Script.{good_requests, first_bad}
 use Rattle.flk_run.specs.Runs.{Takes, IsNear, Written, AllWritten, LineCut, AllDone, ReadShort, WrittenShort, Wanting}
 use Rattle.flk_run.specs.LineRuns.{EventDone, EventCut, NotBegun, EventRan, LineRan}
@@ -26,7 +27,7 @@ use Rattle.flk_run.proofs.ScriptLemmas.{good-append, length-good, bad_behind, go
 use Rattle.flk_run.proofs.SplitLemmas.{Split, Stepped, Goes, nothing_held, split_begins, split_line, split_all, given_first, more_goes, behind_fewer, the_end, tells_end, tells_all, seen_end, told_then, open_rest}
 
 -- the first k lines are good, done and written
-pub record Progress (k : ℕ) (held : Held) (source source' a b : Option (List ℕ)) (from at : Machine) : Type 0 where
+pub record Progress (k : ℕ) (held : Held) (source source' a b : Option (List ℕ)) (from at : Experiment) : Type 0 where
   pub lines : List (List ℕ)
   pub taken : List ℕ
   pub consumed : Consumes source source' taken
@@ -34,20 +35,20 @@ pub record Progress (k : ℕ) (held : Held) (source source' a b : Option (List �
   pub good : first_bad 1 lines ≡ None
   pub done : AllWritten (good_requests 1 lines) a b from at
 
-pub begins : (source a : Option (List ℕ)) (from : Machine) → Progress 0 nothing_held source source a a from from
+pub begins : (source a : Option (List ℕ)) (from : Experiment) → Progress 0 nothing_held source source a a from from
 begins source a from = record {
   lines = [];
   taken = [];
   consumed = Consumes-nil source;
   split = split_begins;
   good = refl;
-  done = λ p s. record { written = Appends-nil a; stands = s };
+  done = λ p s. record { written = Appends-nil a; at = s };
 }
 
 -- ---- one line more
 
 -- a request more is done and written
-written_more : (n : ℕ) (before : List Request) (request : Request) (p : Platform) (a b c : Option (List ℕ)) (mid new : Machine) → length before + 1 ≡ n
+written_more : (n : ℕ) (before : List Request) (request : Request) (p : Platform) (a b c : Option (List ℕ)) (mid new : Experiment) → length before + 1 ≡ n
     → Written before p a b mid → EventDone n request (after_all before p) b c new → Written (before ++ request ∷ []) p a c new
 written_more n before request p a b c mid new count w d =
     let here = transcript_line n request (after_all before p) in
@@ -58,11 +59,11 @@ written_more n before request p a b c mid new count w d =
     ∙ ap (λ t. transcript 1 before p ++ t) (append-nil here) in
     record {
       written = subst (λ t. Appends a c t) (sym whole) (Appends-trans a b c (transcript 1 before p) here w.written d.written);
-      stands = subst (λ q. Stands q new) (sym (after_all-append before (request ∷ []) p)) d.stands;
+      at = subst (λ q. IsAt q new) (sym (after_all-append before (request ∷ []) p)) d.at;
     }
 
 -- a line was given, done and written
-pub line_done : (k : ℕ) (old new : Held) (s t u a b c : Option (List ℕ)) (from mid at : Machine)
+pub line_done : (k : ℕ) (old new : Held) (s t u a b c : Option (List ℕ)) (from mid at : Experiment)
     → Progress k old s t a b from mid → Stepped line.Line old new t u → LineRan run.Done (k + 1) new.line b c mid at → Progress (k + 1) new s u a c from at
 line_done k old new s t u a b c from mid at g step ran =
     let n : length (good_requests 1 g.lines) + 1 ≡ k + 1 = omega (arith, length-good 1 g.lines g.good, g.split.count) in
@@ -76,13 +77,13 @@ line_done k old new s t u a b c from mid at g step ran =
       done = λ p h.
           let w = g.done p h in
           subst (λ rs. Written rs p a c at) (sym requests)
-          (written_more (k + 1) (good_requests 1 g.lines) ran.0 p a b c mid at n w (ran.2 (after_all (good_requests 1 g.lines) p) w.stands));
+          (written_more (k + 1) (good_requests 1 g.lines) ran.0 p a b c mid at n w (ran.2 (after_all (good_requests 1 g.lines) p) w.at));
     }
 
 -- ---- ends of the reader
 
 -- all was taken
-pub ends_all : (k : ℕ) (old : Held) (s t u a b : Option (List ℕ)) (taken : List ℕ) (from at : Machine)
+pub ends_all : (k : ℕ) (old : Held) (s t u a b : Option (List ℕ)) (taken : List ℕ) (from at : Experiment)
     → Progress k old s t a b from at → Consumes t u taken → IsAtEnd u → old.bytes ++ taken ≡ [] → (old.ended ≡ true → taken ≡ []) → AllDone None s u a b from at
 ends_all k old s t u a b taken from at g consumed at_end none goes =
     let all = split_all k g.lines g.taken taken old true g.split (λ e. (goes e, refl)) in
@@ -126,7 +127,7 @@ still_some [] more some h = some refl
 still_some (c ∷ cs) more some h = cc
 
 -- the first line behind the good ones is bad, whatever follows
-ends_bad : (k : ℕ) (old new : Held) (s t u a b : Option (List ℕ)) (taken : List ℕ) (bad : BadLine) (from at : Machine)
+ends_bad : (k : ℕ) (old new : Held) (s t u a b : Option (List ℕ)) (taken : List ℕ) (bad : BadLine) (from at : Experiment)
     → (g : Progress k old s t a b from at) → Consumes t u taken → (old.ended ≡ true → (taken ≡ []) × (new.ended ≡ true)) → (new.ended ≡ true → IsAtEnd u)
     → ((more : List ℕ) (ended : Bool) → Goes new more ended → BadFirst (k + 1) bad (lines_from k ((old.bytes ++ taken) ++ more) ended))
     → IsNear (Some (k + 1, bad)) (g.taken ++ taken) → AllDone (Some (k + 1, bad)) s u a b from at
@@ -151,7 +152,7 @@ ends_bad k old new s t u a b taken bad from at g consumed goes at_end behind nea
     }
 
 -- a line that is too long
-pub ends_long : (k : ℕ) (old new : Held) (s t u a b : Option (List ℕ)) (from at : Machine) → k < most_lines
+pub ends_long : (k : ℕ) (old new : Held) (s t u a b : Option (List ℕ)) (from at : Experiment) → k < most_lines
     → Progress k old s t a b from at → Stepped line.Long old new t u → (new.ended ≡ true → IsAtEnd u) → length new.bytes ≤ longest_line + 1 + read_size
     → AllDone (Some (k + 1, Faulty fault.LongLine)) s u a b from at
 ends_long k old new s t u a b from at few g step at_end near =
@@ -166,7 +167,7 @@ ends_long k old new s t u a b from at few g step at_end near =
     (rw (one, all.1) (omega (arith, ap length step.after.1)))
 
 -- one line too many
-pub ends_many : (k : ℕ) (old new : Held) (s t u a b : Option (List ℕ)) (taken : List ℕ) (from at : Machine) → k ≡ most_lines
+pub ends_many : (k : ℕ) (old new : Held) (s t u a b : Option (List ℕ)) (taken : List ℕ) (from at : Experiment) → k ≡ most_lines
     → Progress k old s t a b from at → Consumes t u taken → old.bytes ++ taken ≢ [] → new.bytes ≡ old.bytes ++ taken → (old.ended ≡ true → (taken ≡ []) × (new.ended ≡ true))
     → (new.ended ≡ true → IsAtEnd u) → length new.bytes ≤ read_size → AllDone (Some (k + 1, TooMany)) s u a b from at
 ends_many k old new s t u a b taken from at many g consumed some held goes at_end near =
@@ -180,7 +181,7 @@ ends_many k old new s t u a b taken from at many g consumed some held goes at_en
     (omega (arith, behind_fewer k (g.taken ++ taken), ap length all.1, ap length held))
 
 -- a read failed
-pub ends_short : (k : ℕ) (old : Held) (s t u a b : Option (List ℕ)) (taken : List ℕ) (from at : Machine)
+pub ends_short : (k : ℕ) (old : Held) (s t u a b : Option (List ℕ)) (taken : List ℕ) (from at : Experiment)
     → Progress k old s t a b from at → TakenUntilFault t u taken → (old.ended ≡ true → ⊥) → lines_from k (old.bytes ++ taken) false ≡ [] → ReadShort s u a b from at
 ends_short k old s t u a b taken from at g consumed open_end none =
     let all = split_all k g.lines g.taken taken old false g.split (λ e. absurd (open_end e)) in
@@ -192,7 +193,7 @@ ends_short k old s t u a b taken from at g consumed open_end none =
       done = subst (λ ls. AllWritten (good_requests 1 ls) a b from at) (sym lines) g.done;
     }
 
-pub ends_failed : (k : ℕ) (old new : Held) (s t u a b : Option (List ℕ)) (from at : Machine) → k < most_lines
+pub ends_failed : (k : ℕ) (old new : Held) (s t u a b : Option (List ℕ)) (from at : Experiment) → k < most_lines
     → Progress k old s t a b from at → Stepped line.Failed old new t u → ReadShort s u a b from at
 ends_failed k old new s t u a b from at few g step =
     let wants = step.after.0 in
@@ -213,7 +214,7 @@ first_short : (new : Held) (bytes : List ℕ) → GivesFirst bytes new → lengt
 first_short new bytes (inl first) short near = omega (arith, ap length first, length-append new.line (10 ∷ new.bytes))
 first_short new bytes (inr last) short near = omega (arith, ap length last.1)
 
-given : (k : ℕ) (old new : Held) (s t u a b : Option (List ℕ)) (from at : Machine)
+given : (k : ℕ) (old new : Held) (s t u a b : Option (List ℕ)) (from at : Experiment)
     → (g : Progress k old s t a b from at) → (step : Stepped line.Line old new t u) → (new.ended ≡ true → IsAtEnd u) → length new.bytes ≤ read_size → Given k new s u g.lines (g.taken ++ step.taken)
 given k old new s t u a b from at g step at_end near =
     let ended = the_end new.ended u in
@@ -244,11 +245,11 @@ near_faulty k fault.Expression taken near before = near
 near_faulty k fault.Name taken near before = near
 near_faulty k fault.NoMemory taken near before = near
 
-unwritten : (requests : List Request) (a b c : Option (List ℕ)) (from mid at : Machine) → AllWritten requests a b from mid → NotBegun b c mid at → AllWritten requests a c from at
+unwritten : (requests : List Request) (a b c : Option (List ℕ)) (from mid at : Experiment) → AllWritten requests a b from mid → NotBegun b c mid at → AllWritten requests a c from at
 unwritten requests a b c from mid at all n = subst (λ o. AllWritten requests a o from at) (sym n.unwritten) (subst (λ m. AllWritten requests a b from m) (sym n.kept) all)
 
 -- a line ended as its event did
-pub line_of_event : (end : LineRun) (n : ℕ) (text : List ℕ) (request : Request) (a b : Option (List ℕ)) (from at : Machine) → n ≤ most_lines → reading text ≡ Ok request → EventRan end n request a b from at
+pub line_of_event : (end : LineRun) (n : ℕ) (text : List ℕ) (request : Request) (a b : Option (List ℕ)) (from at : Experiment) → n ≤ most_lines → reading text ≡ Ok request → EventRan end n request a b from at
     → LineRan end n text a b from at
 line_of_event run.Done n text request a b from at few h e = (request, judged_good n text request few h, e)
 line_of_event run.WriteFault n text request a b from at few h e = (request, judged_good n text request few h, e)
@@ -257,7 +258,7 @@ line_of_event run.NoMemory n text request a b from at few h (inr cut) = inr (req
 line_of_event (run.Bad f) n text request a b from at few h e = absurd e
 
 -- the line that was given is bad
-pub line_bad : (k : ℕ) (old new : Held) (s t u a b c : Option (List ℕ)) (from mid at : Machine) (f : LineFault)
+pub line_bad : (k : ℕ) (old new : Held) (s t u a b c : Option (List ℕ)) (from mid at : Experiment) (f : LineFault)
     → Progress k old s t a b from mid → Stepped line.Line old new t u → (new.ended ≡ true → IsAtEnd u) → length new.bytes ≤ read_size
     → LineRan (run.Bad f) (k + 1) new.line b c mid at → AllDone (Some (k + 1, Faulty f)) s u a c from at
 line_bad k old new s t u a b c from mid at f g step at_end near ran =
@@ -285,7 +286,7 @@ told_more (Some us) None c xs ys h k = absurd h
 told_more (Some us) (Some vs) None xs ys h k = tt
 told_more (Some us) (Some vs) (Some ws) xs ys h k = k ∙ ap (λ r. r ++ ys) h ∙ append_assoc us xs ys
 
-cut_line : (n : ℕ) (before : List Request) (request : Request) (p : Platform) (a b c : Option (List ℕ)) (mid at : Machine) → length before + 1 ≡ n
+cut_line : (n : ℕ) (before : List Request) (request : Request) (p : Platform) (a b c : Option (List ℕ)) (mid at : Experiment) → length before + 1 ≡ n
     → Written before p a b mid → EventCut n request (after_all before p) b c at → LineCut before request p a c at
 cut_line n before request p a b c mid at count w cut =
     let part = cut.written in
@@ -295,11 +296,11 @@ cut_line n before request p a b c mid at count w cut =
       line = ap (λ i. transcript_line i request (after_all before p)) count ∙ part.whole;
       short = part.short;
       written = told_more a b c (transcript 1 before p) part.front w.written part.written;
-      stands = subst (λ q. Stands q at) (sym (after_all-append before (request ∷ []) p)) cut.stands;
+      at = subst (λ q. IsAt q at) (sym (after_all-append before (request ∷ []) p)) cut.at;
     }
 
 -- the transcript line of the line that was given is not whole
-pub line_cut : (k : ℕ) (old new : Held) (s t u a b c : Option (List ℕ)) (from mid at : Machine)
+pub line_cut : (k : ℕ) (old new : Held) (s t u a b c : Option (List ℕ)) (from mid at : Experiment)
     → Progress k old s t a b from mid → Stepped line.Line old new t u → (new.ended ≡ true → IsAtEnd u) → length new.bytes ≤ read_size
     → LineRan run.WriteFault (k + 1) new.line b c mid at → WrittenShort s u a c from at
 line_cut k old new s t u a b c from mid at g step at_end near ran =
@@ -314,13 +315,13 @@ line_cut k old new s t u a b c from mid at g step at_end near ran =
         request = ran.0;
         later = good_requests (k + 1 + 1) (lines_from (k + 1) new.bytes v.ended);
         are = ap (good_requests 1) v.lines_of ∙ (good_behind k g.lines new.line (lines_from (k + 1) new.bytes v.ended) ran.0 g.split.count g.good ran.1).good;
-        cut = λ p h. let w = g.done p h in cut_line (k + 1) (good_requests 1 g.lines) ran.0 p a b c mid at n w (ran.2 (after_all (good_requests 1 g.lines) p) w.stands);
+        cut = λ p h. let w = g.done p h in cut_line (k + 1) (good_requests 1 g.lines) ran.0 p a b c mid at n w (ran.2 (after_all (good_requests 1 g.lines) p) w.at);
       };
       near = subst (λ i. length (behind_lines i (g.taken ++ step.taken)) ≤ read_size) (sym n) v.near;
     }
 
 -- memory ran out before the line that was given, or while its transcript line was written
-pub line_wants : (k : ℕ) (old new : Held) (s t u a b c : Option (List ℕ)) (from mid at : Machine)
+pub line_wants : (k : ℕ) (old new : Held) (s t u a b c : Option (List ℕ)) (from mid at : Experiment)
     → Progress k old s t a b from mid → Stepped line.Line old new t u → (new.ended ≡ true → IsAtEnd u) → length new.bytes ≤ read_size
     → LineRan run.NoMemory (k + 1) new.line b c mid at → Wanting s u a c from at
 line_wants k old new s t u a b c from mid at g step at_end near (inl left) =
@@ -341,10 +342,10 @@ line_wants k old new s t u a b c from mid at g step at_end near (inr cut) =
     record { taken = w.taken; ended = w.ended; takes = w.takes; done = inr w.done }
 
 -- memory ran out before anything was taken
-pub wants_all : (s a : Option (List ℕ)) (from : Machine) → Wanting s s a a from from
+pub wants_all : (s a : Option (List ℕ)) (from : Experiment) → Wanting s s a a from from
 wants_all s a from = record {
   taken = [];
   ended = the_end false s;
   takes = record { consumed = Consumes-nil s; end = tells_end false s (λ e. absurd (cc)) };
-  done = inl (record { before = []; later = []; are = refl; done = λ p h. record { written = Appends-nil a; stands = h } });
+  done = inl (record { before = []; later = []; are = refl; done = λ p h. record { written = Appends-nil a; at = h } });
 }

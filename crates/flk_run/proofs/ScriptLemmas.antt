@@ -8,7 +8,8 @@ use Rattle.script_text.specs.Reading.{judged, reading}
 use Rattle.script_text.specs.declared.line.BadLine.{BadLine}
 use Rattle.script_text.specs.declared.line.BadLine.TheVariants.{Faulty, TooMany}
 use Rattle.script_text.specs.declared.line.LineFault.TheVariants as fault
-use Rattle.flk_run.specs.Platform.{Platform, after, transcript_line, transcript, after_all}
+use Rattle.flk_run.specs.Platform.{Platform}
+use Rattle.flk_run.specs.Events.{after, transcript_line, transcript, after_all}
 use Rattle.flk_run.specs.Script.{before_others, good_requests, bad_or, first_bad}
 
 -- ---- lines

@@ -7,8 +7,9 @@ use Rattle.script_text.specs.Reading.{judged}
 use Rattle.script_text.specs.declared.line.BadLine.TheVariants.{Faulty}
 use Rattle.flk_run.specs.declared.run.LineRun.{LineRun}
 use Rattle.flk_run.specs.declared.run.LineRun.TheVariants.{Done, Bad, WriteFault, NoMemory}
-use Rattle.flk_run.specs.Platform.{Platform, after, transcript_line}
-use Rattle.flk_run.specs.Parts.{Machine, Stands}
+use Rattle.flk_run.specs.Platform.{Platform}
+use Rattle.flk_run.specs.Events.{after, transcript_line}
+use Rattle.flk_run.specs.Parts.{Experiment, IsAt}
 
 -- a front of the piece was appended, and not all of it
 pub record AppendsPart (out out' : Option (List ℕ)) (piece : List ℕ) : Type 0 where
@@ -26,29 +27,29 @@ PutRan NoMemory out out' piece = AppendsPart out out' piece
 PutRan (Bad fault) out out' piece = ⊥
 
 -- from platform p the request of line n was done, and its transcript line is written
-pub record EventDone (n : ℕ) (request : Request) (p : Platform) (out out' : Option (List ℕ)) (new : Machine) : Type 0 where
+pub record EventDone (n : ℕ) (request : Request) (p : Platform) (out out' : Option (List ℕ)) (new : Experiment) : Type 0 where
   pub written : Appends out out' (transcript_line n request p)
-  pub stands : Stands (after request p) new
+  pub at : IsAt (after request p) new
 
 -- it was done, and of its transcript line not all is written
-pub record EventCut (n : ℕ) (request : Request) (p : Platform) (out out' : Option (List ℕ)) (new : Machine) : Type 0 where
+pub record EventCut (n : ℕ) (request : Request) (p : Platform) (out out' : Option (List ℕ)) (new : Experiment) : Type 0 where
   pub written : AppendsPart out out' (transcript_line n request p)
-  pub stands : Stands (after request p) new
+  pub at : IsAt (after request p) new
 
 -- nothing was done or written
-pub record NotBegun (out out' : Option (List ℕ)) (old new : Machine) : Type 0 where
+pub record NotBegun (out out' : Option (List ℕ)) (old new : Experiment) : Type 0 where
   pub unwritten : out' ≡ out
   pub kept : new ≡ old
 
--- the request of line n ended so, from each platform that the machine held
-abbrev pub EventRan : LineRun → ℕ → Request → Option (List ℕ) → Option (List ℕ) → Machine → Machine → Type 0
-EventRan Done n request out out' old new = (p : Platform) → Stands p old → EventDone n request p out out' new
-EventRan WriteFault n request out out' old new = (p : Platform) → Stands p old → EventCut n request p out out' new
-EventRan NoMemory n request out out' old new = NotBegun out out' old new ⊎ ((p : Platform) → Stands p old → EventCut n request p out out' new)
+-- the request of line n ended so, from each platform that the experiment was at
+abbrev pub EventRan : LineRun → ℕ → Request → Option (List ℕ) → Option (List ℕ) → Experiment → Experiment → Type 0
+EventRan Done n request out out' old new = (p : Platform) → IsAt p old → EventDone n request p out out' new
+EventRan WriteFault n request out out' old new = (p : Platform) → IsAt p old → EventCut n request p out out' new
+EventRan NoMemory n request out out' old new = NotBegun out out' old new ⊎ ((p : Platform) → IsAt p old → EventCut n request p out out' new)
 EventRan (Bad fault) n request out out' old new = ⊥
 
 -- line n ended so
-abbrev pub LineRan : LineRun → ℕ → List ℕ → Option (List ℕ) → Option (List ℕ) → Machine → Machine → Type 0
+abbrev pub LineRan : LineRun → ℕ → List ℕ → Option (List ℕ) → Option (List ℕ) → Experiment → Experiment → Type 0
 LineRan Done n line out out' old new = (request : Request) × (judged n line ≡ Ok request) × EventRan Done n request out out' old new
 LineRan WriteFault n line out out' old new = (request : Request) × (judged n line ≡ Ok request) × EventRan WriteFault n request out out' old new
 LineRan NoMemory n line out out' old new =

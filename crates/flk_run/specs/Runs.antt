@@ -11,8 +11,9 @@ use Rattle.script_text.specs.declared.line.BadLine.TheVariants.{Faulty, TooMany}
 use Rattle.script_text.specs.declared.line.LineFault.TheVariants as fault
 use Rattle.flk_run.specs.declared.run.RunEnd.{RunEnd}
 use Rattle.flk_run.specs.declared.run.RunEnd.TheVariants.{Done, Bad, ReadFault, WriteFault, NoMemory}
-use Rattle.flk_run.specs.Platform.{Platform, transcript_line, transcript, after_all}
-use Rattle.flk_run.specs.Parts.{Machine, Stands}
+use Rattle.flk_run.specs.Platform.{Platform}
+use Rattle.flk_run.specs.Events.{transcript_line, transcript, after_all}
+use Rattle.flk_run.specs.Parts.{Experiment, IsAt}
 use Rattle.flk_run.specs.Script.{good_requests, first_bad}
 
 -- ---- what was taken
@@ -37,16 +38,16 @@ IsNear (Some (n, Faulty other)) taken = length (behind_lines n taken) ≤ read_s
 -- ---- what was done and written
 
 -- from platform p the requests are done, and their transcript is written
-pub record Written (requests : List Request) (p : Platform) (out out' : Option (List ℕ)) (new : Machine) : Type 0 where
+pub record Written (requests : List Request) (p : Platform) (out out' : Option (List ℕ)) (new : Experiment) : Type 0 where
   pub written : Appends out out' (transcript 1 requests p)
-  pub stands : Stands (after_all requests p) new
+  pub at : IsAt (after_all requests p) new
 
--- the same, from each platform that the machine held
-abbrev pub AllWritten : List Request → Option (List ℕ) → Option (List ℕ) → Machine → Machine → Type 0
-AllWritten requests out out' old new = (p : Platform) → Stands p old → Written requests p out out' new
+-- the same, from each platform that the experiment was at
+abbrev pub AllWritten : List Request → Option (List ℕ) → Option (List ℕ) → Experiment → Experiment → Type 0
+AllWritten requests out out' old new = (p : Platform) → IsAt p old → Written requests p out out' new
 
 -- some of the requests, from the first on, are done and written, and no other is begun
-pub record Paused (requests : List Request) (out out' : Option (List ℕ)) (old new : Machine) : Type 0 where
+pub record Paused (requests : List Request) (out out' : Option (List ℕ)) (old new : Experiment) : Type 0 where
   pub before : List Request
   pub later : List Request
   pub are : requests ≡ before ++ later
@@ -54,27 +55,27 @@ pub record Paused (requests : List Request) (out out' : Option (List ℕ)) (old 
 
 -- from platform p requests are done and written, and one more is done, of whose transcript line not all is
 -- written
-pub record LineCut (before : List Request) (request : Request) (p : Platform) (out out' : Option (List ℕ)) (new : Machine) : Type 0 where
+pub record LineCut (before : List Request) (request : Request) (p : Platform) (out out' : Option (List ℕ)) (new : Experiment) : Type 0 where
   pub front : List ℕ
   pub missing : List ℕ
   pub line : transcript_line (length before + 1) request (after_all before p) ≡ front ++ missing
   pub short : missing ≢ []
   pub written : AppendsWhereTold out out' (transcript 1 before p ++ front)
-  pub stands : Stands (after_all (before ++ request ∷ []) p) new
+  pub at : IsAt (after_all (before ++ request ∷ []) p) new
 
 -- of the requests some are done and written, and the next is the first whose transcript line is not whole
-pub record CutShort (requests : List Request) (out out' : Option (List ℕ)) (old new : Machine) : Type 0 where
+pub record CutShort (requests : List Request) (out out' : Option (List ℕ)) (old new : Experiment) : Type 0 where
   pub before : List Request
   pub request : Request
   pub later : List Request
   pub are : requests ≡ before ++ request ∷ later
-  pub cut : (p : Platform) → Stands p old → LineCut before request p out out' new
+  pub cut : (p : Platform) → IsAt p old → LineCut before request p out out' new
 
 -- ---- how a run ended
 
 -- the lines before the first bad one are done and written, and it is the first whatever follows; all of the
 -- source was read where there is none
-pub record AllDone (bad : Option (ℕ × BadLine)) (source source' out out' : Option (List ℕ)) (old new : Machine) : Type 0 where
+pub record AllDone (bad : Option (ℕ × BadLine)) (source source' out out' : Option (List ℕ)) (old new : Experiment) : Type 0 where
   pub taken : List ℕ
   pub ended : Bool
   pub takes : Takes source source' taken ended
@@ -85,14 +86,14 @@ pub record AllDone (bad : Option (ℕ × BadLine)) (source source' out out' : Op
   pub near : IsNear bad taken
 
 -- the whole lines that were taken before a read failed are good, done and written
-pub record ReadShort (source source' out out' : Option (List ℕ)) (old new : Machine) : Type 0 where
+pub record ReadShort (source source' out out' : Option (List ℕ)) (old new : Experiment) : Type 0 where
   pub taken : List ℕ
   pub consumed : TakenUntilFault source source' taken
   pub judged : first_bad 1 (script_lines taken false) ≡ None
   pub done : AllWritten (good_requests 1 (script_lines taken false)) out out' old new
 
 -- a transcript line is not whole
-pub record WrittenShort (source source' out out' : Option (List ℕ)) (old new : Machine) : Type 0 where
+pub record WrittenShort (source source' out out' : Option (List ℕ)) (old new : Experiment) : Type 0 where
   pub taken : List ℕ
   pub ended : Bool
   pub takes : Takes source source' taken ended
@@ -100,7 +101,7 @@ pub record WrittenShort (source source' out out' : Option (List ℕ)) (old new :
   pub near : length (behind_lines (length done.before + 1) taken) ≤ read_size
 
 -- memory ran out before a line was begun, or while its transcript line was written
-pub record Wanting (source source' out out' : Option (List ℕ)) (old new : Machine) : Type 0 where
+pub record Wanting (source source' out out' : Option (List ℕ)) (old new : Experiment) : Type 0 where
   pub taken : List ℕ
   pub ended : Bool
   pub takes : Takes source source' taken ended
@@ -108,7 +109,7 @@ pub record Wanting (source source' out out' : Option (List ℕ)) (old new : Mach
       ⊎ CutShort (good_requests 1 (script_lines taken ended)) out out' old new
 
 -- what a run that ended so took, did and wrote
-abbrev pub Ran : RunEnd → Option (List ℕ) → Option (List ℕ) → Option (List ℕ) → Option (List ℕ) → Machine → Machine → Type 0
+abbrev pub Ran : RunEnd → Option (List ℕ) → Option (List ℕ) → Option (List ℕ) → Option (List ℕ) → Experiment → Experiment → Type 0
 Ran Done source source' out out' old new = AllDone None source source' out out' old new
 Ran (Bad n bad) source source' out out' old new = AllDone (Some (n, bad)) source source' out out' old new
 Ran ReadFault source source' out out' old new = ReadShort source source' out out' old new

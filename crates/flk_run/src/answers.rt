@@ -1,10 +1,23 @@
-// Lines of the transcript.
+// The answers to events, as lines of the transcript.
 ghost use Rattle.std.specs.Prelude.{◌≡◌, ◌+◌, ◌*◌, ◌≤◌, ◌++◌, length, codes, decimal};
 ghost use Rattle.hex.specs.Hex.{encode_lower};
-ghost use Rattle.flk_run.specs.Platform.{numbered};
+ghost use Rattle.flk_run.specs.Answers.{fault_text, fault_number, numbered, line_of, Done, Counts, Shows, Refused};
 
 use flk_base::{Bytes, print_hex};
 use itoa::Buffer;
+use script_text::ExprFault;
+use slb_image::ImageFault;
+
+/// Why an event was not done.
+#[derive(Clone, Copy, Debug, PartialEq, Eq)]
+pub enum Refusal {
+    /// There is no register of this number.
+    NoRegister,
+    /// An expression has no value.
+    NoValue(ExprFault),
+    /// The values have no image.
+    NoImage(ImageFault),
+}
 
 // The number of a line, and a space.
 fn put_number(out: &mut Bytes, number: u32)
@@ -17,8 +30,8 @@ fn put_number(out: &mut Bytes, number: u32)
     out.put(b" ");
 }
 
-/// A line of the transcript, for which there is room.
-pub(crate) fn put_line(out: &mut Bytes, number: u32, text: &[u8])
+// A line of the transcript, for which there is room.
+fn put_line(out: &mut Bytes, number: u32, text: &[u8])
     requires { length text.now + 12 ≤ out.old.spare }
     ensures { out.new.bytes ≡ out.old.bytes ++ numbered number text.now }
 {
@@ -27,13 +40,86 @@ pub(crate) fn put_line(out: &mut Bytes, number: u32, text: &[u8])
     out.put(b"\n");
 }
 
-/// A line with a value of 20 bytes, for which there is room.
-pub(crate) fn put_value_line(out: &mut Bytes, number: u32, value: &[u8; 20])
+/// A line that an event was done.
+pub(crate) fn put_done(out: &mut Bytes, number: u32)
     requires { 64 ≤ out.old.spare }
-    ensures { out.new.bytes ≡ out.old.bytes ++ numbered number (codes "ok x:" ++ encode_lower value.now) }
+    ensures { out.new.bytes ≡ out.old.bytes ++ line_of number Done }
+{
+    put_line(out, number, b"ok");
+}
+
+/// A line with a number.
+pub(crate) fn put_count(out: &mut Bytes, number: u32, count: usize)
+    requires { 64 ≤ out.old.spare }
+    ensures { out.new.bytes ≡ out.old.bytes ++ line_of number (Counts count) }
+{
+    let mut buffer = Buffer::new();
+    put_number(out, number);
+    out.put(b"ok ");
+    out.put(buffer.format(count).as_bytes());
+    out.put(b"\n");
+}
+
+/// A line with a value, for which there is room.
+pub(crate) fn put_value(out: &mut Bytes, number: u32, value: &[u8])
+    requires { 64 + 2 * length value.now ≤ out.old.spare }
+    ensures { out.new.bytes ≡ out.old.bytes ++ line_of number (Shows value.now) }
 {
     put_number(out, number);
     out.put(b"ok x:");
     let _ = print_hex(out, value);
     out.put(b"\n");
+}
+
+// What is wrong with an expression.
+fn fault_text(fault: ExprFault) -> &'static [u8]
+    ensures text { result.now ≡ fault_text fault }
+    ensures short { length result.now ≤ 9 }
+{
+    match fault {
+        ExprFault::Name => b"no name",
+        ExprFault::Range => b"no range",
+        ExprFault::Long => b"no long",
+        ExprFault::NoMemory => b"no memory",
+    }
+}
+
+/// The number of a fault of images.
+pub fn fault_number(fault: ImageFault) -> u32
+    ensures { result ≡ fault_number fault }
+{
+    match fault {
+        ImageFault::Short => 1,
+        ImageFault::Length => 2,
+        ImageFault::Entry => 3,
+        ImageFault::Mark => 4,
+        ImageFault::Version => 5,
+        ImageFault::Flags => 6,
+        ImageFault::Budget => 7,
+        ImageFault::Reserved => 8,
+    }
+}
+
+// A line that values have no image.
+fn put_no_image(out: &mut Bytes, number: u32, fault: ImageFault)
+    requires { 64 ≤ out.old.spare }
+    ensures { out.new.bytes ≡ out.old.bytes ++ line_of number (Refused (Refusal.NoImage fault)) }
+{
+    let mut buffer = Buffer::new();
+    put_number(out, number);
+    out.put(b"no image ");
+    out.put(buffer.format(fault_number(fault)).as_bytes());
+    out.put(b"\n");
+}
+
+/// A line that an event was not done.
+pub(crate) fn put_refusal(out: &mut Bytes, number: u32, refusal: Refusal)
+    requires { 64 ≤ out.old.spare }
+    ensures { out.new.bytes ≡ out.old.bytes ++ line_of number (Refused refusal) }
+{
+    match refusal {
+        Refusal::NoRegister => put_line(out, number, b"no register"),
+        Refusal::NoValue(fault) => put_line(out, number, fault_text(fault)),
+        Refusal::NoImage(fault) => put_no_image(out, number, fault),
+    }
 }

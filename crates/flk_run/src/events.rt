@@ -1,44 +1,133 @@
-// What an event does to the board.
-ghost use Rattle.std.specs.Prelude.{◌≡◌, ◌≤◌, ◌++◌};
-ghost use Rattle.script_text.specs.Seen.{request_of};
+// What an event does to the board and the variables.
+ghost use Rattle.std.specs.Prelude.{◌≡◌, ◌≤◌, ◌+◌, ◌*◌, length, true, OnOk};
+ghost use Rattle.script_text.specs.Seen.{request_of, HasShortName, IsShortName};
 ghost use Rattle.flk_run.specs.declared.board.SimDisk.{SimDisk as DiskView};
-ghost use Rattle.flk_run.specs.Platform.{Platform, after, transcript_line};
-ghost use Rattle.flk_run.specs.Parts.{Stands};
+ghost use Rattle.flk_run.specs.Platform.{Platform};
+ghost use Rattle.flk_run.specs.Events.{done, extended_by_host, register_shown};
+ghost use Rattle.flk_run.specs.Tasks.{Bind, BindImage};
+ghost use Rattle.flk_run.specs.Parts.{BoardParts, IsAt, experiment};
+ghost use Rattle.script_text.specs.Variables.{Table};
+ghost use Rattle.flk_run.specs.Seen.{seen, room, binds, IsNamed, StepDone, EventStepped};
 
-use crate::answers::{put_line, put_value_line};
+use crate::answers::{Refusal, put_count, put_done, put_refusal, put_value};
 use crate::board::Board;
-use flk_base::Bytes;
-use script_text::Event;
+use crate::runner::StepEnd;
+use crate::tasks::{Task, task_of};
+use flk_base::{Bytes, NoMemory};
+use script_text::{Event, Vars};
+use std::alloc::Global;
 
-/// Does an event, for whose line there is room.
-pub(crate) fn do_event(mut board: Board, number: u32, event: &Event, answer: &mut Bytes) -> Board
-    requires { 64 ≤ answer.old.spare }
-    ensures written { (p : Platform) (disk : DiskView) → Stands p (record { board = board; disk = disk })
-        → answer.new.bytes ≡ answer.old.bytes ++ transcript_line number (request_of event.now) p }
-    ensures leaves { (p : Platform) (disk : DiskView) → Stands p (record { board = board; disk = disk })
-        → Stands (after (request_of event.now) p) (record { board = result; disk = disk }) }
+/// Does an event where there is memory for it: for the values of its expressions, for its line of the
+/// transcript, and for the name that it binds. All of that is taken before anything changes.
+pub(crate) fn do_event(
+    alloc: Global,
+    board: &mut Board,
+    vars: &mut Vars,
+    number: u32,
+    event: &Event,
+    answer: &mut Bytes,
+) -> StepEnd
+    requires { HasShortName (request_of event.now) }
+    ensures { (disk : DiskView) → EventStepped result number (request_of event.now)
+        (experiment board.old disk vars.old.table) (experiment board.new disk vars.new.table)
+        answer.old.bytes answer.new.bytes }
 {
-    match event {
-        Event::Blank => return board,
-        Event::Extend { r, text } => match board.extend(*r, b"host", text.as_slice()) {
-            Ok(()) => {
-                put_line(answer, number, b"ok");
-                return board;
-            }
-            Err(_) => {
-                put_line(answer, number, b"no register");
-                return board;
-            }
-        },
-        Event::Read { r } => match board.read_register(*r) {
-            Ok(value) => {
-                put_value_line(answer, number, &value);
-                return board;
-            }
-            Err(_) => {
-                put_line(answer, number, b"no register");
-                return board;
-            }
-        },
+    let Ok(task) = task_of(alloc, event, vars) else {
+        return StepEnd::NoMemory;
+    };
+    if answer.reserve(task.room()).is_err() {
+        return StepEnd::NoMemory;
     }
+    if room_for_name(&task, vars).is_err() {
+        return StepEnd::NoMemory;
+    }
+    do_task(board, vars, number, task, answer);
+    StepEnd::Done
+}
+
+// Makes room for the name that a task binds, where it binds one.
+fn room_for_name(task: &Task<'_>, vars: &mut Vars) -> Result<(), NoMemory>
+    ensures table { vars.new.table ≡ vars.old.table }
+    ensures room { OnOk result (binds (seen task.now) ≡ true → 1 ≤ vars.new.spare) }
+{
+    if task.binds() {
+        return vars.room();
+    }
+    Ok(())
+}
+
+// Does a task, for whose line and name there is room.
+fn do_task(board: &mut Board, vars: &mut Vars, number: u32, task: Task<'_>, answer: &mut Bytes)
+    requires line { room (seen task) ≤ answer.old.spare }
+    requires named { IsNamed (seen task) }
+    requires free { binds (seen task) ≡ true → 1 ≤ vars.old.spare }
+    ensures { (p : Platform) (disk : DiskView) → IsAt p (experiment board.old disk vars.old.table)
+        → StepDone number (done (seen task.entry) p) (experiment board.new disk vars.new.table) answer.old.bytes answer.new.bytes }
+{
+    match task {
+        Task::Rest => {}
+        Task::Refuse(refusal) => put_refusal(answer, number, refusal),
+        Task::Extend { r, text } => extend(board, number, r, text.as_slice(), answer),
+        Task::Read { r } => read(board, number, r, answer),
+        Task::Bind { name, value } => bind(vars, number, name, value, answer),
+        Task::Show { value } => put_value(answer, number, value.as_slice()),
+        Task::BindImage { name, image } => bind_image(vars, number, name, image, answer),
+    }
+}
+
+fn extend(board: &mut Board, number: u32, r: u32, text: &[u8], answer: &mut Bytes)
+    requires { 64 ≤ answer.old.spare }
+    ensures { (p : Platform) (disk : DiskView) (table : Table) → IsAt p (experiment board.old disk table)
+        → StepDone number (extended_by_host r text.now p) (experiment board.new disk table) answer.old.bytes answer.new.bytes }
+{
+    match board.extend(r, b"host", text) {
+        Ok(()) => {
+            put_done(answer, number);
+            return;
+        }
+        Err(_) => {
+            put_refusal(answer, number, Refusal::NoRegister);
+            return;
+        }
+    }
+}
+
+fn read(board: &Board, number: u32, r: u32, answer: &mut Bytes)
+    requires { 104 ≤ answer.old.spare }
+    ensures { (p : Platform) (disk : DiskView) (table : Table) → IsAt p (experiment board.now disk table)
+        → StepDone number (register_shown r p) (experiment board.now disk table) answer.old.bytes answer.new.bytes }
+{
+    match board.read_register(r) {
+        Ok(value) => {
+            put_value(answer, number, &value);
+            return;
+        }
+        Err(_) => {
+            put_refusal(answer, number, Refusal::NoRegister);
+            return;
+        }
+    }
+}
+
+fn bind(vars: &mut Vars, number: u32, name: &[u8], value: Bytes, answer: &mut Bytes)
+    requires line { 64 ≤ answer.old.spare }
+    requires named { IsShortName name.now }
+    requires free { 1 ≤ vars.old.spare }
+    ensures { (p : Platform) (disk : DiskView) (board : BoardParts) → IsAt p (experiment board disk vars.old.table)
+        → StepDone number (done (Bind name.now value.bytes) p) (experiment board disk vars.new.table) answer.old.bytes answer.new.bytes }
+{
+    vars.put(name, value);
+    put_done(answer, number);
+}
+
+fn bind_image(vars: &mut Vars, number: u32, name: &[u8], image: Bytes, answer: &mut Bytes)
+    requires line { 64 ≤ answer.old.spare }
+    requires named { IsShortName name.now }
+    requires free { 1 ≤ vars.old.spare }
+    ensures { (p : Platform) (disk : DiskView) (board : BoardParts) → IsAt p (experiment board disk vars.old.table)
+        → StepDone number (done (BindImage name.now image.bytes) p) (experiment board disk vars.new.table) answer.old.bytes answer.new.bytes }
+{
+    let length = image.as_slice().len();
+    vars.put(name, image);
+    put_count(answer, number, length);
 }

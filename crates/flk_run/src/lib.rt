@@ -6,9 +6,11 @@ mod board;
 mod events;
 mod run;
 mod runner;
+mod tasks;
 #[cfg(test)]
 mod tests;
 
+pub use answers::{Refusal, fault_number};
 pub use board::{Board, SimDisk, Spans};
 pub use run::{RunEnd, run_script};
 pub use runner::{Runner, StepEnd};

@@ -2,7 +2,7 @@
 ghost use Rattle.std.specs.Prelude.{◌≡◌, ◌≢◌, ◌≤◌, [], false};
 ghost use Rattle.flk_base.specs.Causes.{Rose};
 ghost use Rattle.script_text.specs.Lines.{most_lines};
-ghost use Rattle.script_text.specs.Seen.{request_of};
+ghost use Rattle.script_text.specs.Seen.{request_of, HasShortName};
 ghost use Rattle.flk_run.specs.Runs.{Ran};
 ghost use Rattle.flk_run.specs.LineRuns.{LineRan, EventRan, PutRan};
 
@@ -137,6 +137,7 @@ fn run_event<K: Sink>(
     runner: Runner,
     out: &mut K,
 ) -> (Runner, LineRun)
+    requires { HasShortName (request_of event.now) }
     ensures ran { EventRan result.1 number (request_of event.now) (K.contents out.old) (K.contents out.new) runner result.0 }
     ensures later { K.fault_count out.old ≤ K.fault_count out.new }
     ensures cause { result.1 ≡ LineRun.WriteFault → Rose (K.fault_count out.old) (K.fault_count out.new) }

@@ -26,7 +26,7 @@ fn spend(runner: Runner) {
 
 #[test]
 fn one_event_after_another(rt: HostRuntime) -> Result<(), Fail> {
-    let rows: [(&str, &str); 5] = [
+    let rows: [(&str, &str); 23] = [
         (
             "read 17",
             "7 ok x:ffffffffffffffffffffffffffffffffffffffff\n",
@@ -39,6 +39,27 @@ fn one_event_after_another(rt: HostRuntime) -> Result<(), Fail> {
             "7 ok x:0f1bdaadb3340e884d0b56a2e18f0e9dbccb8372\n",
         ),
         ("extend 24 x:00", "7 no register\n"),
+        ("let v x:0102", "7 ok\n"),
+        ("show v+rep:ff*2", "7 ok x:0102ffff\n"),
+        ("show v[1..2]~0", "7 ok x:03\n"),
+        ("let v zz", "7 no name\n"),
+        ("show v", "7 ok x:0102\n"),
+        ("extend 24 zz", "7 no name\n"),
+        ("show x:00[0..2]", "7 no range\n"),
+        ("show x:00~1", "7 no range\n"),
+        ("show rep:00*65537", "7 no long\n"),
+        ("show x:0a0b[1..2]+x:", "7 ok x:0b\n"),
+        ("image m pal 32 3 x:31db31c0cd80", "7 ok 38\n"),
+        (
+            "show m",
+            "7 ok x:20002600464c4b4301000000030000000000000000000000000000000000000031db31c0cd80\n",
+        ),
+        ("image q pal 32 1 rep:90*49120", "7 ok 49152\n"),
+        ("image q pal 32 1 rep:90*49121", "7 no image 2\n"),
+        ("image m pal 32 1 x:", "7 no image 2\n"),
+        ("image m pal 33 1 x:90", "7 no image 3\n"),
+        ("image m pal 32 0 x:90", "7 no image 7\n"),
+        ("show m[0..4]", "7 ok x:20002600\n"),
     ];
     let mut runner = runner(&rt)?;
     for (line, wanted) in rows {

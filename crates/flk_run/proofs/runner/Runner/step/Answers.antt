@@ -1,14 +1,23 @@
-use Rattle.std.proofs.Common.{sym, ap, ◌∙◌, ◌++◌, subst}
-use Rattle.flk_run.specs.Parts.{Machine, Stands}
-use Rattle.flk_run.specs.Platform.{transcript_line}
-use Rattle.script_text.specs.Seen.{request_of}
+use Rattle.std.proofs.Common.{sym, subst, ◌∙◌}
+use Rattle.flk_run.specs.Parts.{Experiment, IsAt}
 use Rattle.flk_run.proofs.runner.Runner.step.Goals as goal
 
 pub returns-clause-written : goal.returns-clause-written
-returns-clause-written c same p s =
-    c.do_event-board.ensures.written p c.self.inside.disk (subst (λ (m : Machine). Stands p m) (sym c.self.view_is) s)
-    ∙ ap (λ b. b ++ transcript_line c.args.number (request_of c.args.event.now) p) c.reserve.ensures.bytes
+returns-clause-written c done p s =
+    let e = rw done at (c.do_event-end.ensures c.self.inside.disk) in
+    (e p (subst (λ (x : Experiment). IsAt p x) (sym c.self.view_is) s)).written
 
 pub returns-clause-leaves : goal.returns-clause-leaves
-returns-clause-leaves c same p s =
-    c.do_event-board.ensures.leaves p c.self.inside.disk (subst (λ (m : Machine). Stands p m) (sym c.self.view_is) s)
+returns-clause-leaves c done p s =
+    let e = rw done at (c.do_event-end.ensures c.self.inside.disk) in
+    (e p (subst (λ (x : Experiment). IsAt p x) (sym c.self.view_is) s)).at
+
+pub returns-clause-kept : goal.returns-clause-kept
+returns-clause-kept c want =
+    let e = rw want at (c.do_event-end.ensures c.self.inside.disk) in
+    e.0 ∙ c.self.view_is
+
+pub returns-clause-unwritten : goal.returns-clause-unwritten
+returns-clause-unwritten c want =
+    let e = rw want at (c.do_event-end.ensures c.self.inside.disk) in
+    e.1

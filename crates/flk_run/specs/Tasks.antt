@@ -1,0 +1,47 @@
+-- What an event comes to once its expressions have their values, which is first.
+use Rattle.std.specs.Prelude.{ℕ, List, Option, Some, None, Result, Ok, Err}
+use Rattle.script_text.specs.Expressions.{Term}
+use Rattle.script_text.specs.Variables.{Table}
+use Rattle.script_text.specs.Values.{value_of}
+use Rattle.script_text.specs.Grammar.{Request, Nothing, ExtendBy, ReadOf, LetBe, ShowOf, ImageOf}
+use Rattle.script_text.specs.declared.value.ExprFault.{ExprFault}
+use Rattle.slb_image.specs.Image.{pack}
+use Rattle.slb_image.specs.Faults.{build_fault}
+use Rattle.slb_image.specs.declared.fault.ImageFault.{ImageFault}
+use Rattle.flk_run.specs.declared.answers.Refusal.{Refusal}
+use Rattle.flk_run.specs.declared.answers.Refusal.TheVariants.{NoRegister, NoValue, NoImage}
+
+-- nothing; to answer a refusal; to extend a register by a text; to read one; to bind a name to a value; to show a
+-- value; or to bind a name to an image, and to answer how long it is
+pub data Task : Type 0 where
+  Rest : Task
+  Refuse : (why : Refusal) → Task
+  Extend : (r : ℕ) → (text : List ℕ) → Task
+  Read : (r : ℕ) → Task
+  Bind : (name : List ℕ) → (value : List ℕ) → Task
+  Show : (bytes : List ℕ) → Task
+  BindImage : (name : List ℕ) → (image : List ℕ) → Task
+
+-- the task for a value; the fault of an expression that has none is the answer
+abbrev pub given : Result (List ℕ) ExprFault → (List ℕ → Task) → Task
+given (Ok bytes) task = task bytes
+given (Err fault) task = Refuse (NoValue fault)
+
+-- the task for the value of an expression
+abbrev pub evaluated : List Term → Table → (List ℕ → Task) → Task
+evaluated terms table task = given (value_of terms table) task
+
+-- the image, where the values have one
+abbrev pub imaged : List ℕ → Option ImageFault → List ℕ → Task
+imaged name None image = BindImage name image
+imaged name (Some fault) image = Refuse (NoImage fault)
+
+-- what a request comes to
+abbrev pub task_of : Request → Table → Task
+task_of Nothing table = Rest
+task_of (ExtendBy r text) table = evaluated text table (λ bytes. Extend r bytes)
+task_of (ReadOf r) table = Read r
+task_of (LetBe name value) table = evaluated value table (λ bytes. Bind name bytes)
+task_of (ShowOf value) table = evaluated value table (λ bytes. Show bytes)
+task_of (ImageOf name job entry budget code) table =
+    evaluated code table (λ bytes. imaged name (build_fault entry budget bytes) (pack entry budget job bytes))

@@ -1,0 +1,178 @@
+// What an event comes to once its expressions have their values.
+ghost use Rattle.std.specs.Prelude.{◌≡◌, ◌≢◌, IfOk};
+ghost use Rattle.script_text.specs.Seen.{request_of, HasShortName};
+ghost use Rattle.slb_image.specs.Faults.{build_fault};
+ghost use Rattle.slb_image.specs.Image.{pack};
+ghost use Rattle.flk_run.specs.Tasks.{Refuse, Extend, Bind, Show, evaluated, imaged, task_of};
+ghost use Rattle.flk_run.specs.Seen.{seen, room, binds, IsNamed, IsShown};
+
+use crate::answers::Refusal;
+use flk_base::{Bytes, NoMemory};
+use script_text::{Event, Expr, ExprFault, Vars};
+use slb_image::{BuildError, build};
+use std::alloc::Global;
+
+/// The room that a line of the transcript has, beside the digits of a value.
+const LINE_ROOM: usize = 64;
+
+/// The room that it has with the value of a register.
+const REGISTER_ROOM: usize = LINE_ROOM + 40;
+
+/// What an event comes to: what there is to do, with the values of its expressions.
+#[derive(Drop)]
+pub(crate) enum Task<'e> {
+    /// Nothing.
+    Rest,
+    /// To answer why it is not done.
+    Refuse(Refusal),
+    /// To extend a register by the text `host` and these bytes.
+    Extend { r: u32, text: Bytes },
+    /// To show a register.
+    Read { r: u32 },
+    /// To bind a name to a value.
+    Bind { name: &'e [u8], value: Bytes },
+    /// To show a value.
+    Show { value: Bytes },
+    /// To bind a name to an image, and to answer how long it is.
+    BindImage { name: &'e [u8], image: Bytes },
+}
+
+// The answer that an expression has no value; want of memory is none.
+fn refused(fault: ExprFault) -> Result<Task<'static>, NoMemory>
+    ensures { IfOk result (λ task. (seen task ≡ Refuse (Refusal.NoValue fault)) × (fault ≢ ExprFault.NoMemory)) }
+{
+    match fault {
+        ExprFault::NoMemory => return Err(NoMemory),
+        ExprFault::Name | ExprFault::Range | ExprFault::Long => {
+            return Ok(Task::Refuse(Refusal::NoValue(fault)));
+        }
+    }
+}
+
+fn extend_task(alloc: Global, r: u32, text: &Expr, vars: &Vars) -> Result<Task<'static>, NoMemory>
+    ensures { IfOk result (λ task. seen task ≡ evaluated text.now vars.now.table (λ bytes. Extend r bytes)) }
+{
+    match text.value(alloc, vars) {
+        Ok(text) => return Ok(Task::Extend { r, text }),
+        Err(fault) => return refused(fault),
+    }
+}
+
+fn bind_task<'e>(
+    alloc: Global,
+    name: &'e [u8],
+    value: &Expr,
+    vars: &Vars,
+) -> Result<Task<'e>, NoMemory>
+    ensures { IfOk result (λ task. seen task ≡ evaluated value.now vars.now.table (λ bytes. Bind name.now bytes)) }
+{
+    match value.value(alloc, vars) {
+        Ok(value) => return Ok(Task::Bind { name, value }),
+        Err(fault) => return refused(fault),
+    }
+}
+
+fn show_task(alloc: Global, value: &Expr, vars: &Vars) -> Result<Task<'static>, NoMemory>
+    ensures task { IfOk result (λ task. seen task ≡ evaluated value.now vars.now.table (λ bytes. Show bytes)) }
+    ensures shown { IfOk result (λ task. IsShown (seen task)) }
+{
+    match value.value(alloc, vars) {
+        Ok(value) => return Ok(Task::Show { value }),
+        Err(fault) => return refused(fault),
+    }
+}
+
+// The values of an image, beside its code.
+#[derive(Clone, Copy)]
+struct Front {
+    job: bool,
+    entry: u32,
+    budget: u32,
+}
+
+fn image_of<'e>(
+    alloc: Global,
+    name: &'e [u8],
+    front: Front,
+    code: &[u8],
+) -> Result<Task<'e>, NoMemory>
+    ensures { IfOk result (λ task. seen task
+        ≡ imaged name.now (build_fault front.entry front.budget code.now) (pack front.entry front.budget front.job code.now)) }
+{
+    match build(alloc, code, front.entry, front.budget, front.job) {
+        Ok(image) => return Ok(Task::BindImage { name, image }),
+        Err(BuildError::NoMemory) => return Err(NoMemory),
+        Err(BuildError::Image(fault)) => return Ok(Task::Refuse(Refusal::NoImage(fault))),
+    }
+}
+
+fn image_task<'e>(
+    alloc: Global,
+    name: &'e [u8],
+    front: Front,
+    code: &Expr,
+    vars: &Vars,
+) -> Result<Task<'e>, NoMemory>
+    ensures { IfOk result (λ task. seen task ≡ evaluated code.now vars.now.table (λ bytes.
+        imaged name.now (build_fault front.entry front.budget bytes) (pack front.entry front.budget front.job bytes))) }
+{
+    match code.value(alloc, vars) {
+        Ok(code) => return image_of(alloc, name, front, code.as_slice()),
+        Err(fault) => return refused(fault),
+    }
+}
+
+/// What an event comes to: its expressions have their values, with these variables. It takes the memory that
+/// these want.
+pub(crate) fn task_of<'e>(
+    alloc: Global,
+    event: &'e Event,
+    vars: &Vars,
+) -> Result<Task<'e>, NoMemory>
+    requires { HasShortName (request_of event.now) }
+    ensures task { IfOk result (λ task. seen task ≡ task_of (request_of event.now) vars.now.table) }
+    ensures named { IfOk result (λ task. IsNamed (seen task)) }
+    ensures shown { IfOk result (λ task. IsShown (seen task)) }
+{
+    match event {
+        Event::Blank => return Ok(Task::Rest),
+        Event::Extend { r, text } => return extend_task(alloc, *r, text, vars),
+        Event::Read { r } => return Ok(Task::Read { r: *r }),
+        Event::Let { var, value } => return bind_task(alloc, var.as_slice(), value, vars),
+        Event::Show { value } => return show_task(alloc, value, vars),
+        Event::Image {
+            var,
+            job,
+            entry,
+            budget,
+            code,
+        } => {
+            let front = Front {
+                job: *job,
+                entry: *entry,
+                budget: *budget,
+            };
+            return image_task(alloc, var.as_slice(), front, code, vars);
+        }
+    }
+}
+
+impl Task<'_> {
+    /// The room that the line of its answer needs.
+    pub(crate) fn room(&self) -> usize
+        requires { IsShown (seen self.now) }
+        ensures { result ≡ room (seen self.now) }
+    {
+        match self {
+            Task::Show { value } => LINE_ROOM + 2 * value.as_slice().len(),
+            _ => REGISTER_ROOM,
+        }
+    }
+
+    /// Whether it binds a name.
+    pub(crate) fn binds(&self) -> bool
+        ensures { result ≡ binds (seen self.now) }
+    {
+        matches!(self, Task::Bind { .. } | Task::BindImage { .. })
+    }
+}
