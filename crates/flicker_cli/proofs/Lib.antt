@@ -1,1 +1,4 @@
+mod InputLemmas
+mod MessageLemmas
+mod TextLemmas
 pub mod TopLemmas

@@ -1,16 +1,21 @@
 -- What each answer of the top call says of all that it was handed. What is done and written is said for
--- every platform that the board and the disk held; a blank board holds the blank one.
-use Rattle.std.specs.Prelude.{◌≡◌, ◌≢◌, ◌⊎◌, ℕ, ◌≤◌, List, [], Bool, true, Option, codes}
+-- every platform that the board and the disk held and on which no name is bound; a blank board holds the blank one.
+use Rattle.std.specs.Prelude.{◌≡◌, ◌≢◌, ◌⊎◌, ℕ, ◌≤◌, List, [], Bool, true, Option, Some, None}
 use Rattle.std.specs.Io.KnownBytes.{Appends}
 use Rattle.flk_base.specs.Causes.{Rose}
 use Rattle.flk_base.specs.Told.{AppendsFront}
-use Rattle.flk_run.specs.declared.run.RunEnd.{RunEnd}
-use Rattle.flk_run.specs.declared.run.RunEnd.TheVariants.{Done, Bad, ReadFault, WriteFault, NoMemory}
 use Rattle.flk_run.specs.Platform.{Platform}
-use Rattle.flk_run.specs.Parts.{Machine, Stands}
-use Rattle.flk_run.specs.Runs.{Takes, IsNear, ReadShort, WrittenShort, Ran}
+use Rattle.std.specs.FinMap.{empty}
+use Rattle.script_text.specs.Variables.{Table}
+use Rattle.flk_run.specs.Parts.{Machine, Experiment, Stands}
+use Rattle.flk_run.specs.Runs.{Takes, AllDone, ReadShort, WrittenShort, Wanting}
 use Rattle.flicker_cli.specs.declared.words.Command.{Command}
-use Rattle.flicker_cli.specs.Text.{bad_in, err_of, status_of, out_of, platform_of, usage_message, bad_line_message}
+use Rattle.flicker_cli.specs.declared.words.Command.TheVariants.{Run, Filter}
+use Rattle.flicker_cli.specs.declared.outcome.Outcome.{Outcome}
+use Rattle.flicker_cli.specs.declared.outcome.Outcome.TheVariants.{Done, BadLine, BadInput, ReadFault, WriteFault, NoMemory}
+use Rattle.flicker_cli.specs.Inputs.{FilterRan}
+use Rattle.flicker_cli.specs.Messages.{usage_message, outcome_message}
+use Rattle.flicker_cli.specs.Text.{err_of, status_of, IsOut, platform_of, StopsAt}
 
 -- what the source has left and the sinks hold, where it is told, and their counts of faults
 pub record Streams : Type 0 where
@@ -21,11 +26,18 @@ pub record Streams : Type 0 where
   pub out_faults : ℕ
   pub err_faults : ℕ
 
+-- the machine is at the platform, and no name is bound
+pub record Begins (p : Platform) (from : Machine) : Type 0 where
+  pub stands : Stands p from
+  pub unbound : p.variables ≡ empty
+
 -- ---- statuses 0, 1 and 2
 
 -- from platform p, out and the machine are those of the text
 pub record IsDone (task : Option Command) (taken : List ℕ) (ended : Bool) (p : Platform) (old new : Streams) (at : Machine) : Type 0 where
-  pub out : Appends old.out new.out (out_of task taken ended p)
+  pub out : List ℕ
+  pub is : IsOut task taken ended p out
+  pub written : Appends old.out new.out out
   pub stands : Stands (platform_of task taken ended p) at
 
 -- out, err, status and the machine are those of the text, for the bytes that were taken
@@ -36,42 +48,20 @@ pub record IsText (task : Option Command) (old new : Streams) (status : ℕ) (fr
   pub read : status ≡ 0 → ended ≡ true
   pub err : Appends old.err new.err (err_of task taken ended)
   pub status_is : status ≡ status_of task taken ended
-  pub done : (p : Platform) → Stands p from → IsDone task taken ended p old new at
-  pub near : IsNear (bad_in task taken ended) taken
+  pub done : (p : Platform) → Begins p from → IsDone task taken ended p old new at
+  pub stops : StopsAt task taken ended
 
--- ---- how a call ended, and its message
+-- ---- how a call ended
 
--- the words are in no row of the table, or a script was run to this end
+-- the words are in no row of the table, or their command ended so
 pub data CallEnd : Type 0 where
   Usage : CallEnd
-  Ended : RunEnd → CallEnd
-
-abbrev pub read_fault_message : List ℕ
-read_fault_message = codes "flicker: read fault\n"
-
-abbrev pub write_fault_message : List ℕ
-write_fault_message = codes "flicker: write fault\n"
-
-abbrev pub no_memory_message : List ℕ
-no_memory_message = codes "flicker: no memory\n"
+  Ended : Command → Outcome → CallEnd
 
 -- the one message that is tried on err
 abbrev pub end_message : CallEnd → List ℕ
 end_message Usage = usage_message
-end_message (Ended Done) = []
-end_message (Ended (Bad n bad)) = bad_line_message n bad
-end_message (Ended ReadFault) = read_fault_message
-end_message (Ended WriteFault) = write_fault_message
-end_message (Ended NoMemory) = no_memory_message
-
--- the status where that message is written
-abbrev pub end_status : CallEnd → ℕ
-end_status Usage = 2
-end_status (Ended Done) = 0
-end_status (Ended (Bad n bad)) = 1
-end_status (Ended ReadFault) = 3
-end_status (Ended WriteFault) = 4
-end_status (Ended NoMemory) = 5
+end_message (Ended command outcome) = outcome_message outcome
 
 -- nothing was read, done or written to out
 pub record Untouched (old new : Streams) (from at : Machine) : Type 0 where
@@ -79,59 +69,93 @@ pub record Untouched (old new : Streams) (from at : Machine) : Type 0 where
   pub unwritten : new.out ≡ old.out
   pub kept : at ≡ from
 
--- what was read, done and written to out
+-- what a script that ended so took, did and wrote
+abbrev pub ScriptRan : Outcome → Option (List ℕ) → Option (List ℕ) → Option (List ℕ) → Option (List ℕ) → Experiment → Experiment → Type 0
+ScriptRan Done source source' out out' from at = AllDone None source source' out out' from at
+ScriptRan (BadLine n bad) source source' out out' from at = AllDone (Some (n, bad)) source source' out out' from at
+ScriptRan (BadInput bad) source source' out out' from at = ⊥
+ScriptRan ReadFault source source' out out' from at = ReadShort source source' out out' from at
+ScriptRan WriteFault source source' out out' from at = WrittenShort source source' out out' from at
+ScriptRan NoMemory source source' out out' from at = Wanting source source' out out' from at
+
+-- what a command that ended so took, did and wrote: a filter does nothing to the experiment
+abbrev pub CommandRan : Command → Outcome → Option (List ℕ) → Option (List ℕ) → Option (List ℕ) → Option (List ℕ) → Experiment → Experiment → Type 0
+CommandRan Run outcome source source' out out' from at = ScriptRan outcome source source' out out' from at
+CommandRan (Filter which) outcome source source' out out' from at = FilterRan which outcome source source' out out' × (at ≡ from)
+
+-- the experiment that a call begins: no name is bound
+abbrev pub begun : Machine → Experiment
+begun machine = record { machine = machine; variables = empty }
+
+-- what was read, done and written to out; what the script bound is given up
 abbrev pub Left : CallEnd → Streams → Streams → Machine → Machine → Type 0
 Left Usage old new from at = Untouched old new from at
-Left (Ended end) old new from at = Ran end old.source new.source old.out new.out from at
+Left (Ended command outcome) old new from at =
+    (variables : Table) × CommandRan command outcome old.source new.source old.out new.out (begun from) (record { machine = at; variables = variables })
 
--- a fault that this end names was counted in the call
-pub record IsCaused (end : CallEnd) (old new : Streams) : Type 0 where
-  pub read : end ≡ Ended ReadFault → Rose old.source_faults new.source_faults
-  pub write : end ≡ Ended WriteFault → Rose old.out_faults new.out_faults
+-- a fault that this outcome names was counted in the call
+pub record IsCaused (outcome : Outcome) (old new : Streams) : Type 0 where
+  pub read : outcome ≡ ReadFault → Rose old.source_faults new.source_faults
+  pub write : outcome ≡ WriteFault → Rose old.out_faults new.out_faults
+
+-- the end of a call may be this: it is that of its words, and a fault that it names was counted
+abbrev pub IsEnd : Option Command → CallEnd → Streams → Streams → Type 0
+IsEnd None end old new = end ≡ Usage
+IsEnd (Some command) end old new = (outcome : Outcome) × (end ≡ Ended command outcome) × (outcome ≢ Done) × IsCaused outcome old new
 
 -- ---- status 3: a read failed
 
--- the whole lines taken are good, done and written, and err has the message
-pub record AfterReadFault (old new : Streams) (from at : Machine) : Type 0 where
-  pub left : ReadShort old.source new.source old.out new.out from at
-  pub told : Appends old.err new.err read_fault_message
+-- of a script the whole lines taken are good, done and written; a filter wrote nothing; err has the message
+pub record AfterReadFault (command : Command) (old new : Streams) (from at : Machine) : Type 0 where
+  pub left : Left (Ended command ReadFault) old new from at
+  pub told : Appends old.err new.err (outcome_message ReadFault)
 
 -- ---- status 4: a put failed
 
--- on out: a transcript line is not whole, and err has the message, or its put failed too
-pub record OutFailed (old new : Streams) (from at : Machine) : Type 0 where
+-- on out: a transcript line or the text of a filter is not whole, and err has the message, or its put failed too
+pub record OutFailed (command : Command) (old new : Streams) (from at : Machine) : Type 0 where
   pub rose : Rose old.out_faults new.out_faults
-  pub left : WrittenShort old.source new.source old.out new.out from at
-  pub told : Appends old.err new.err write_fault_message ⊎ (Rose old.err_faults new.err_faults × AppendsFront old.err new.err write_fault_message)
+  pub left : Left (Ended command WriteFault) old new from at
+  pub told : Appends old.err new.err (outcome_message WriteFault)
+      ⊎ (Rose old.err_faults new.err_faults × AppendsFront old.err new.err (outcome_message WriteFault))
 
 -- on err alone: the message of another end is not whole, and the rest is as that end leaves it
-pub record ErrFailed (old new : Streams) (from at : Machine) : Type 0 where
+pub record ErrFailed (task : Option Command) (old new : Streams) (from at : Machine) : Type 0 where
   pub end : CallEnd
-  pub told_some : end ≢ Ended Done
-  pub other : end ≢ Ended WriteFault
-  pub caused : IsCaused end old new
+  pub is : IsEnd task end old new
+  pub other : (command : Command) → end ≢ Ended command WriteFault
   pub rose : Rose old.err_faults new.err_faults
   pub left : Left end old new from at
   pub told : AppendsFront old.err new.err (end_message end)
 
-abbrev pub AfterWriteFault : Streams → Streams → Machine → Machine → Type 0
-AfterWriteFault old new from at = OutFailed old new from at ⊎ ErrFailed old new from at
+-- where the words are no command, there is only the message on them
+abbrev pub AfterWriteFault : Option Command → Streams → Streams → Machine → Machine → Type 0
+AfterWriteFault None old new from at = ErrFailed None old new from at
+AfterWriteFault (Some command) old new from at = OutFailed command old new from at ⊎ ErrFailed (Some command) old new from at
 
 -- ---- status 5: memory ran out
 
--- for the run, and err has the message; or for the put of the message of some end
-pub record AfterWant (old new : Streams) (from at : Machine) : Type 0 where
+-- for the command, and err has the message
+pub record CommandWanted (command : Command) (old new : Streams) (from at : Machine) : Type 0 where
+  pub left : Left (Ended command NoMemory) old new from at
+  pub told : Appends old.err new.err (outcome_message NoMemory)
+
+-- for the put of the message of some end
+pub record MessageWanted (task : Option Command) (old new : Streams) (from at : Machine) : Type 0 where
   pub end : CallEnd
-  pub told_some : end ≢ Ended Done
-  pub caused : IsCaused end old new
+  pub is : IsEnd task end old new
   pub left : Left end old new from at
-  pub told : ((end ≡ Ended NoMemory) × Appends old.err new.err no_memory_message) ⊎ AppendsFront old.err new.err (end_message end)
+  pub told : AppendsFront old.err new.err (end_message end)
+
+abbrev pub AfterWant : Option Command → Streams → Streams → Machine → Machine → Type 0
+AfterWant None old new from at = MessageWanted None old new from at
+AfterWant (Some command) old new from at = CommandWanted command old new from at ⊎ MessageWanted (Some command) old new from at
 
 -- ---- every status
 
 -- what stands after a call that answered this status
 pub record Answered (task : Option Command) (status : ℕ) (old new : Streams) (from at : Machine) : Type 0 where
   pub text : status ≤ 2 → IsText task old new status from at
-  pub read_fault : status ≡ 3 → AfterReadFault old new from at
-  pub write_fault : status ≡ 4 → AfterWriteFault old new from at
-  pub no_memory : status ≡ 5 → AfterWant old new from at
+  pub read_fault : status ≡ 3 → (command : Command) × (task ≡ Some command) × AfterReadFault command old new from at
+  pub write_fault : status ≡ 4 → AfterWriteFault task old new from at
+  pub no_memory : status ≡ 5 → AfterWant task old new from at

@@ -3,9 +3,14 @@ use Rattle.std.specs.Prelude.{◌≡◌, ◌⊎◌, ℕ, List, Option}
 use Rattle.std.specs.Io.KnownBytes.{Appends}
 use Rattle.flk_base.specs.Causes.{Rose}
 use Rattle.flk_base.specs.Told.{AppendsFront}
-use Rattle.flk_run.specs.declared.run.RunEnd.TheVariants.{Done, Bad, ReadFault, WriteFault, NoMemory}
 use Rattle.flk_run.specs.Parts.{Machine}
-use Rattle.flicker_cli.specs.Answered.{Streams, CallEnd, Usage, Ended, end_message, IsCaused, Left}
+use Rattle.flicker_cli.specs.declared.words.Command.{Command}
+use Rattle.flicker_cli.specs.declared.outcome.Outcome.{Outcome}
+use Rattle.flicker_cli.specs.declared.outcome.Outcome.TheVariants.{Done, BadLine, BadInput, ReadFault, WriteFault, NoMemory}
+use Rattle.flk_run.specs.declared.run.RunEnd.{RunEnd}
+use Rattle.flk_run.specs.declared.run.RunEnd.TheVariants as run
+use Rattle.flicker_cli.specs.Messages.{outcome_message, outcome_status}
+use Rattle.flicker_cli.specs.Answered.{Streams, Ended, IsCaused, Left}
 
 -- the message was written, and the status is this one; or its put failed, and it is 4; or memory ran out
 -- for it, and it is 5
@@ -15,17 +20,21 @@ Tried message wanted err err' before now status =
     ⊎ ((status ≡ 4) × Rose before now × AppendsFront err err' message)
     ⊎ ((status ≡ 5) × AppendsFront err err' message)
 
--- what was told of an end, and the status
-abbrev pub Told : CallEnd → Option (List ℕ) → Option (List ℕ) → ℕ → ℕ → ℕ → Type 0
-Told (Ended Done) err err' before now status = (status ≡ 0) × (err' ≡ err)
-Told (Ended (Bad n bad)) err err' before now status = Tried (end_message (Ended (Bad n bad))) 1 err err' before now status
-Told (Ended ReadFault) err err' before now status = Tried (end_message (Ended ReadFault)) 3 err err' before now status
-Told (Ended WriteFault) err err' before now status = Tried (end_message (Ended WriteFault)) 4 err err' before now status
-Told (Ended NoMemory) err err' before now status = Tried (end_message (Ended NoMemory)) 5 err err' before now status
-Told Usage err err' before now status = Tried (end_message Usage) 2 err err' before now status
+-- what was told of an outcome, and the status: nothing is told where all is done
+abbrev pub Told : Outcome → Option (List ℕ) → Option (List ℕ) → ℕ → ℕ → ℕ → Type 0
+Told Done err err' before now status = (status ≡ 0) × (err' ≡ err)
+Told outcome err err' before now status = Tried (outcome_message outcome) (outcome_status outcome) err err' before now status
 
--- a call ended so, and told it
-pub record Ends (end : CallEnd) (old new : Streams) (status : ℕ) (from at : Machine) : Type 0 where
-  pub left : Left end old new from at
-  pub told : Told end old.err new.err old.err_faults new.err_faults status
-  pub caused : IsCaused end old new
+-- the command ended so, and told it
+pub record Ends (command : Command) (outcome : Outcome) (old new : Streams) (status : ℕ) (from at : Machine) : Type 0 where
+  pub left : Left (Ended command outcome) old new from at
+  pub told : Told outcome old.err new.err old.err_faults new.err_faults status
+  pub caused : IsCaused outcome old new
+
+-- the outcome of a run
+abbrev pub outcome_of : RunEnd → Outcome
+outcome_of run.Done = Done
+outcome_of (run.Bad n bad) = BadLine n bad
+outcome_of run.ReadFault = ReadFault
+outcome_of run.WriteFault = WriteFault
+outcome_of run.NoMemory = NoMemory

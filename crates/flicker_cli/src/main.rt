@@ -2,8 +2,12 @@
 #![tactic(auto)]
 
 mod fault;
+mod filter;
 mod finished;
+mod input;
+mod measure;
 mod messages;
+mod outcome;
 #[cfg(test)]
 mod tests;
 mod top;

@@ -64,7 +64,7 @@ fn call(
 
 #[test]
 fn scripts(rt: HostRuntime) -> Result<(), Fail> {
-    let rows: [(&str, &str, &str, u8); 14] = [
+    let rows: [(&str, &str, &str, u8); 18] = [
         ("", "", "", 0),
         (
             "read 17\n",
@@ -94,6 +94,20 @@ fn scripts(rt: HostRuntime) -> Result<(), Fail> {
         ("extend a b\n", "", "flicker: line 1: bad number\n", 1),
         ("reed \x07\n", "", "flicker: line 1: bad byte\n", 1),
         ("reed 1 2 3\n", "", "flicker: line 1: unknown command\n", 1),
+        (
+            "let v x:0102\nshow v+rep:ff*2\nshow v[1..2]~0\n",
+            "1 ok\n2 ok x:0102ffff\n3 ok x:03\n",
+            "",
+            0,
+        ),
+        ("show zz\nextend 0 zz\n", "1 no name\n2 no name\n", "", 0),
+        (
+            "image m pal 32 1 x:90\nimage m pal 33 1 x:90\nshow m[32..33]\n",
+            "1 ok 33\n2 no image 3\n3 ok x:90\n",
+            "",
+            0,
+        ),
+        ("let 9 x:\n", "", "flicker: line 1: bad name\n", 1),
     ];
     for (script, out, err, status) in rows {
         let written = call(&rt, &["run"], script.as_bytes(), 5, NONE)?;
@@ -113,6 +127,134 @@ fn other_words(rt: HostRuntime) -> Result<(), Fail> {
         assert_eq!(rt; written.out.contents(), b"".as_slice());
         assert_eq!(rt; written.err.contents(), usage.as_bytes());
         assert_eq!(rt; written.status, 2);
+    }
+    Ok(())
+}
+
+#[test]
+fn assembles(rt: HostRuntime) -> Result<(), Fail> {
+    let rows = [
+        ("", "\n"),
+        ("mov eax, 1", "b801000000\n"),
+        ("add eax, ebx\n", "01d8\n"),
+        ("mov eax, [esp+4]", "8b442404\n"),
+        ("mov eax, [ebp]", "8b4500\n"),
+        ("add eax, 128", "81c080000000\n"),
+        ("lea ebx, [esi+72]", "8d5e48\n"),
+        ("mov dword [edi], 4", "c70704000000\n"),
+        ("l: jmp l\n", "e9fbffffff\n"),
+    ];
+    for (text, out) in rows {
+        let written = call(&rt, &["asm"], text.as_bytes(), 5, NONE)?;
+        as_told(&rt, &written, out, "", 0);
+    }
+    let faults = [
+        ("jmp x", "flicker: line 1: unknown label\n"),
+        ("a: nop\na: nop\n", "flicker: line 2: label twice\n"),
+        ("mov eax, 4294967296", "flicker: line 1: out of range\n"),
+        ("nop\nmov eax", "flicker: line 2: bad operand\n"),
+        ("\n\nmove eax, 1", "flicker: line 3: unknown word\n"),
+        (".zero 49120\nnop", "flicker: line 2: code too long\n"),
+    ];
+    for (text, err) in faults {
+        let written = call(&rt, &["asm"], text.as_bytes(), 5, NONE)?;
+        as_told(&rt, &written, "", err, 1);
+    }
+    Ok(())
+}
+
+#[test]
+fn lists(rt: HostRuntime) -> Result<(), Fail> {
+    let bad = "flicker: bad hex\n";
+    let rows = [
+        ("", "", "", 0),
+        ("ebfe", "jmp 0x20\n", "", 0),
+        (" E b\tF\r\ne\n", "jmp 0x20\n", "", 0),
+        ("a1", ".byte 161\n", "", 0),
+        ("eb", ".byte 235\n", "", 0),
+        ("9090c3", "nop\nnop\nret\n", "", 0),
+        ("9", "", bad, 1),
+        ("90 9g", "", bad, 1),
+    ];
+    for (code, out, err, status) in rows {
+        let written = call(&rt, &["dis"], code.as_bytes(), 3, NONE)?;
+        as_told(&rt, &written, out, err, status);
+    }
+    Ok(())
+}
+
+// The two values are those of python3's hashlib: h is sha1(image), and then sha1(bytes(20) + h).
+#[test]
+fn measures(rt: HostRuntime) -> Result<(), Fail> {
+    let image = "20002600464c4b43010000000300000000000000000000000000000000000000 31DB31C0CD80\n";
+    let lines = "sha1 44800927802d70c98910c92e5edae2a566c322fd\n\
+        launch 125796dbcef09d8f4971141474f0c99b3f85ad30\n";
+    let bad = "flicker: bad hex\n";
+    let rows = [
+        (image, lines, "", 0),
+        ("00", "", "flicker: not an image: 1\n", 1),
+        ("", "", "flicker: not an image: 1\n", 1),
+        ("2", "", bad, 1),
+        ("2g", "", bad, 1),
+        (
+            "20002600464c4b43010000000300000000000000000000000000000000000000",
+            "",
+            "flicker: not an image: 2\n",
+            1,
+        ),
+    ];
+    for (bytes, out, err, status) in rows {
+        let written = call(&rt, &["measure"], bytes.as_bytes(), 7, NONE)?;
+        as_told(&rt, &written, out, err, status);
+    }
+    Ok(())
+}
+
+// So many copies of a byte.
+fn copies(rt: &HostRuntime, byte: u8, count: usize) -> Result<Vec<u8>, Fail> {
+    Ok(vec![in rt.alloc(); byte; count]?)
+}
+
+#[test]
+fn inputs_that_are_too_long(rt: HostRuntime) -> Result<(), Fail> {
+    let long = "flicker: input too long\n";
+    let rows = [
+        ("asm", b' ', 1_048_576, "\n", "", 0),
+        ("asm", b' ', 1_048_577, "", long, 1),
+        ("dis", b' ', 1_048_576, "", "", 0),
+        ("dis", b'g', 1_048_577, "", long, 1),
+        ("dis", b'0', 98_242, "", long, 1),
+        ("dis", b'0', 98_243, "", "flicker: bad hex\n", 1),
+        ("measure", b'g', 1_048_577, "", long, 1),
+    ];
+    for (command, byte, count, out, err, status) in rows {
+        let input = copies(&rt, byte, count)?;
+        let written = call(&rt, &[command], &input, 65_536, NONE)?;
+        as_told(&rt, &written, out, err, status);
+    }
+    Ok(())
+}
+
+#[test]
+fn filters_that_fail(rt: HostRuntime) -> Result<(), Fail> {
+    let read = Faults {
+        reads: &[1],
+        ..NONE
+    };
+    let put = Faults { puts: &[0], ..NONE };
+    let message = Faults {
+        messages: &[0],
+        ..NONE
+    };
+    let rows: [Failing<'_>; 4] = [
+        ("9090", read, "", "flicker: read fault\n", 3),
+        ("9090", put, "", "flicker: write fault\n", 4),
+        ("", put, "", "", 0),
+        ("9", message, "", "", 4),
+    ];
+    for (code, faults, out, err, status) in rows {
+        let written = call(&rt, &["dis"], code.as_bytes(), 2, faults)?;
+        as_told(&rt, &written, out, err, status);
     }
     Ok(())
 }

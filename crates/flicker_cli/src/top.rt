@@ -1,19 +1,22 @@
 // The top call.
 ghost use Rattle.std.specs.Prelude.{◌≡◌, ◌⊎◌, ◌≤◌, ℕ, List, map, true, Some, None, string_bytes};
+ghost use Rattle.std.specs.FinMap.{empty};
 ghost use Rattle.flk_base.specs.Causes.{Rose};
-ghost use Rattle.script_text.specs.Lines.{script_lines};
-ghost use Rattle.flk_run.specs.Script.{first_bad};
-ghost use Rattle.flk_run.specs.declared.run.RunEnd.{RunEnd as RunEndView};
-ghost use Rattle.flicker_cli.specs.declared.words.Command.TheVariants.{Run};
-ghost use Rattle.flicker_cli.specs.Text.{command};
-ghost use Rattle.flicker_cli.specs.Answered.{Answered, Usage, Ended};
-ghost use Rattle.flicker_cli.specs.Telling.{Ends};
+ghost use Rattle.flicker_cli.specs.declared.words.Command.{Command as CommandView};
+ghost use Rattle.flicker_cli.specs.declared.outcome.Outcome.{Outcome as OutcomeView};
+ghost use Rattle.flicker_cli.specs.declared.outcome.Outcome.TheVariants.{Done};
+ghost use Rattle.flicker_cli.specs.Commands.{command};
+ghost use Rattle.flicker_cli.specs.Text.{end_on};
+ghost use Rattle.flicker_cli.specs.Answered.{Answered, CommandRan};
+ghost use Rattle.flicker_cli.specs.Telling.{Ends, outcome_of};
 
+use crate::filter::run_filter;
 use crate::finished::Finished;
 use crate::messages::{MESSAGE_ROOM, NO_MEMORY, USAGE, say, tell};
+use crate::outcome::Outcome;
 use crate::words::{Command, command_of};
 use flk_base::{Bytes, Sink, Source};
-use flk_run::{Board, Runner, SimDisk, run_script};
+use flk_run::{Board, RunEnd, Runner, SimDisk, run_script};
 use std::alloc::Global;
 
 /// Does what the words of the command line say, over this source and these sinks, on this board and disk.
@@ -56,9 +59,9 @@ pub fn flicker<S: Source, K: Sink, E: Sink>(
     ensures write { result.status ≡ 4
         → Rose (K.fault_count out.old) (K.fault_count out.new) ⊎ Rose (E.fault_count err.old) (E.fault_count err.new) }
 
-    // A script with no bad line is done, unless a fault comes or memory runs out.
-    ensures complete { command (map string_bytes words.now) ≡ Some Run
-        → (content : List ℕ) → S.left source.old ≡ Some content → first_bad 1 (script_lines content true) ≡ None
+    // A source that is of its command's form is done to its end, unless a fault comes or memory runs out.
+    ensures complete { (task : CommandView) → command (map string_bytes words.now) ≡ Some task
+        → (content : List ℕ) → S.left source.old ≡ Some content → end_on task content true ≡ Done
         → (result.status ≡ 0) ⊎ (result.status ≡ 5) ⊎ Rose (S.fault_count source.old) (S.fault_count source.new)
         ⊎ Rose (K.fault_count out.old) (K.fault_count out.new) ⊎ Rose (E.fault_count err.old) (E.fault_count err.new) }
 {
@@ -68,22 +71,24 @@ pub fn flicker<S: Source, K: Sink, E: Sink>(
             let status = say(err, USAGE, 2);
             return finished(runner, status);
         }
-        Some(Command::Run) => {
-            let (runner, status) = run(alloc, source, out, err, runner);
+        Some(command) => {
+            let (runner, status) = run(alloc, command, source, out, err, runner);
             return finished(runner, status);
         }
     }
 }
 
-// Runs the script on the source, and tells how it ended.
+// Does a command, and tells how it ended.
 fn run<S: Source, K: Sink, E: Sink>(
     alloc: Global,
+    command: Command,
     source: &mut S,
     out: &mut K,
     err: &mut E,
     runner: Runner,
 ) -> (Runner, u8)
-    ensures { (end : RunEndView) × Ends (Ended end)
+    requires { runner.variables ≡ empty }
+    ensures { (outcome : OutcomeView) × Ends command outcome
         (record {
           source = S.left source.old;
           out = K.contents out.old;
@@ -100,23 +105,62 @@ fn run<S: Source, K: Sink, E: Sink>(
           out_faults = K.fault_count out.new;
           err_faults = E.fault_count err.new;
         })
-        result.1 runner result.0 }
+        result.1 runner.machine result.0.machine }
 {
     let mut room = Bytes::new(alloc);
     if room.reserve(MESSAGE_ROOM).is_err() {
         let status = say(err, NO_MEMORY, 5);
         return (runner, status);
     }
-    let (runner, end) = run_script(alloc, source, out, runner);
-    let status = tell(end, &mut room, err);
+    let (runner, outcome) = carry_out(alloc, command, source, out, runner);
+    let status = tell(outcome, &mut room, err);
     (runner, status)
+}
+
+// Does a command.
+fn carry_out<S: Source, K: Sink>(
+    alloc: Global,
+    command: Command,
+    source: &mut S,
+    out: &mut K,
+    runner: Runner,
+) -> (Runner, Outcome)
+    ensures ran { CommandRan command result.1 (S.left source.old) (S.left source.new) (K.contents out.old) (K.contents out.new) runner result.0 }
+    ensures later { S.fault_count source.old ≤ S.fault_count source.new }
+    ensures later_out { K.fault_count out.old ≤ K.fault_count out.new }
+    ensures read { result.1 ≡ Outcome.ReadFault → Rose (S.fault_count source.old) (S.fault_count source.new) }
+    ensures write { result.1 ≡ Outcome.WriteFault → Rose (K.fault_count out.old) (K.fault_count out.new) }
+{
+    match command {
+        Command::Run => {
+            let (runner, end) = run_script(alloc, source, out, runner);
+            return (runner, outcome_of(end));
+        }
+        Command::Filter(filter) => {
+            let outcome = run_filter(alloc, filter, source, out);
+            return (runner, outcome);
+        }
+    }
+}
+
+// The outcome of a run.
+fn outcome_of(end: RunEnd) -> Outcome
+    ensures { result ≡ outcome_of end }
+{
+    match end {
+        RunEnd::Done => Outcome::Done,
+        RunEnd::Bad(number, bad) => Outcome::BadLine(number, bad),
+        RunEnd::ReadFault => Outcome::ReadFault,
+        RunEnd::WriteFault => Outcome::WriteFault,
+        RunEnd::NoMemory => Outcome::NoMemory,
+    }
 }
 
 // What is left of a runner.
 fn finished(runner: Runner, status: u8) -> Finished
     ensures status { result.status ≡ status }
-    ensures board { result.board ≡ runner.board }
-    ensures disk { result.disk ≡ runner.disk }
+    ensures board { result.board ≡ runner.machine.board }
+    ensures disk { result.disk ≡ runner.machine.disk }
 {
     let (board, disk, spans) = runner.finish();
     Finished {

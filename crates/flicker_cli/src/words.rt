@@ -1,12 +1,42 @@
 // The words behind the program's name.
 ghost use Rattle.std.specs.Prelude.{◌≡◌, map, string_bytes};
-ghost use Rattle.flicker_cli.specs.Text.{command};
+ghost use Rattle.flicker_cli.specs.Commands.{command, word_command};
 
 /// What a call is to do.
 #[derive(Clone, Copy, Debug, PartialEq, Eq)]
 pub enum Command {
-    /// To run the script on its source.
+    /// To run the script on its source, line by line.
     Run,
+    /// To read its whole source, and write what it makes of it.
+    Filter(Filter),
+}
+
+/// A command that reads its whole source.
+#[derive(Clone, Copy, Debug, PartialEq, Eq)]
+pub enum Filter {
+    /// From an assembler text to its code in hexadecimal.
+    Asm,
+    /// From code in hexadecimal to its listing.
+    Dis,
+    /// From an image in hexadecimal to its digest, and to what register 17 shows after its launch.
+    Measure,
+}
+
+// The command of a word.
+fn word_command(word: &str) -> Option<Command>
+    ensures { result ≡ word_command word.now }
+{
+    if word == "run" {
+        Some(Command::Run)
+    } else if word == "asm" {
+        Some(Command::Filter(Filter::Asm))
+    } else if word == "dis" {
+        Some(Command::Filter(Filter::Dis))
+    } else if word == "measure" {
+        Some(Command::Filter(Filter::Measure))
+    } else {
+        None
+    }
 }
 
 /// What the words ask for; nothing where they are in no row of the table of commands.
@@ -14,7 +44,7 @@ pub fn command_of(words: &[String]) -> Option<Command>
     ensures { result ≡ command (map string_bytes words.now) }
 {
     match words {
-        [word] if word.as_str() == "run" => Some(Command::Run),
+        [word] => word_command(word.as_str()),
         _ => None,
     }
 }
