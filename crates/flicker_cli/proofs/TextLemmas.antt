@@ -66,6 +66,13 @@ filters_nothing Asm input bad e = nothing_made (assembled input) bad e
 filters_nothing Dis input bad e = nothing_listed (code_in input) bad e
 filters_nothing Measure input bad e = nothing_made (measured input) bad e
 
+-- a longer input ends the same way, where it may be longer
+settled_input : (which : Which) (taken : List ℕ) (ended : Bool) → IsInput taken ended → (more : List ℕ) → (ended ≡ true → more ≡ []) → input_end (fault_in which (taken ++ more)) ≡ input_end (fault_in which taken)
+settled_input which taken ended input more ends = elim input.whole [
+  | inl all ↦ ap (λ bytes. input_end (fault_in which bytes)) (ap (λ m. taken ++ m) (ends all) ∙ append-nil taken)
+  | inr long ↦ ap input_end (too_long_by which taken more long ∙ sym (too_long which taken long))
+]
+
 text_filtered : (which : Which) (old new : Streams) (status : ℕ) (from at : Machine) → Filtered which old.source new.source old.out new.out → at ≡ from
     → Appends old.err new.err [] → status ≡ 0 → IsText (Some (Filter which)) old new status from at
 text_filtered which old new status from at d same m s = record {
@@ -76,6 +83,8 @@ text_filtered which old new status from at d same m s = record {
   err = subst (λ b. Appends old.err new.err (outcome_message (input_end b))) (sym d.makes.good) m;
   status_is = s ∙ ap (λ b. outcome_status (input_end b)) (sym d.makes.good);
   done = λ p h. record { out = d.text; is = d.makes.made; written = d.written; stands = subst (λ x. Stands p x) (sym same) h.stands };
+  settled = λ more ends. settled_input which d.taken d.takes.ended d.takes.input more ends;
+  kept = same;
   stops = d.takes.input;
 }
 
@@ -89,6 +98,8 @@ text_refused which bad old new status from at d same m s = record {
   err = subst (λ b. Appends old.err new.err (outcome_message (input_end b))) (sym d.fault) m;
   status_is = s ∙ ap (λ b. outcome_status (input_end b)) (sym d.fault);
   done = λ p h. record { out = []; is = filters_nothing which d.taken bad d.fault; written = kept old.out new.out d.unwritten; stands = subst (λ x. Stands p x) (sym same) h.stands };
+  settled = λ more ends. settled_input which d.taken d.takes.ended d.takes.input more ends;
+  kept = same;
   stops = d.takes.input;
 }
 
@@ -106,6 +117,8 @@ text_script old new status from at bad d m s none = record {
   done = λ p h.
       let w = d.done p (record { stands = h.stands; variables = sym h.unbound }) in
       record { out = transcript 1 (good_requests 1 (script_lines d.taken d.ended)) p; is = refl; written = w.written; stands = w.at.stands };
+  settled = λ more ends. ap script_end (d.stays more ends ∙ sym d.judged);
+  kept = tt;
   stops = rw d.judged d.near;
 }
 
@@ -157,6 +170,8 @@ text_usage old new status from at u t few =
       err = w.1;
       status_is = w.0;
       done = λ p h. record { out = []; is = refl; written = kept old.out new.out u.unwritten; stands = subst (λ m. Stands p m) (sym u.kept) h.stands };
+      settled = tt;
+      kept = u.kept;
       stops = refl;
     }
 

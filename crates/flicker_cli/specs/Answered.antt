@@ -15,7 +15,7 @@ use Rattle.flicker_cli.specs.declared.outcome.Outcome.{Outcome}
 use Rattle.flicker_cli.specs.declared.outcome.Outcome.TheVariants.{Done, BadLine, BadInput, ReadFault, WriteFault, NoMemory}
 use Rattle.flicker_cli.specs.Inputs.{FilterRan}
 use Rattle.flicker_cli.specs.Messages.{usage_message, outcome_message}
-use Rattle.flicker_cli.specs.Text.{err_of, status_of, IsOut, platform_of, StopsAt}
+use Rattle.flicker_cli.specs.Text.{err_of, status_of, IsOut, platform_of, IsSettled, StopsAt}
 
 -- what the source has left and the sinks hold, where it is told, and their counts of faults
 pub record Streams : Type 0 where
@@ -40,6 +40,12 @@ pub record IsDone (task : Option Command) (taken : List ℕ) (ended : Bool) (p :
   pub written : Appends old.out new.out out
   pub stands : Stands (platform_of task taken ended p) at
 
+-- only a script changes the machine
+abbrev pub LeavesMachine : Option Command → Machine → Machine → Type 0
+LeavesMachine None from at = at ≡ from
+LeavesMachine (Some Run) from at = Unit {0}
+LeavesMachine (Some (Filter which)) from at = at ≡ from
+
 -- out, err, status and the machine are those of the text, for the bytes that were taken
 pub record IsText (task : Option Command) (old new : Streams) (status : ℕ) (from at : Machine) : Type 0 where
   pub taken : List ℕ
@@ -48,7 +54,9 @@ pub record IsText (task : Option Command) (old new : Streams) (status : ℕ) (fr
   pub read : status ≡ 0 → ended ≡ true
   pub err : Appends old.err new.err (err_of task taken ended)
   pub status_is : status ≡ status_of task taken ended
+  pub settled : IsSettled task taken ended
   pub done : (p : Platform) → Begins p from → IsDone task taken ended p old new at
+  pub kept : LeavesMachine task from at
   pub stops : StopsAt task taken ended
 
 -- ---- how a call ended

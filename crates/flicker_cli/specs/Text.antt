@@ -1,5 +1,5 @@
 -- What each call writes, answers and leaves: by its words, the bytes taken and whether they are all.
-use Rattle.std.specs.Prelude.{◌≡◌, ℕ, List, [], Bool, Option, Some, None}
+use Rattle.std.specs.Prelude.{◌≡◌, ℕ, List, [], ◌++◌, Bool, true, Option, Some, None}
 use Rattle.script_text.specs.Lines.{script_lines}
 use Rattle.script_text.specs.declared.line.BadLine.{BadLine as Bad}
 use Rattle.flk_run.specs.Platform.{Platform}
@@ -51,6 +51,11 @@ abbrev pub platform_of : Option Command → List ℕ → Bool → Platform → P
 platform_of None taken ended p = p
 platform_of (Some Run) taken ended p = after_all (good_requests 1 (script_lines taken ended)) p
 platform_of (Some (Filter filter)) taken ended p = p
+
+-- how it ends is the same whatever follows the bytes taken
+abbrev pub IsSettled : Option Command → List ℕ → Bool → Type 0
+IsSettled None taken ended = Unit {0}
+IsSettled (Some command) taken ended = (more : List ℕ) → (ended ≡ true → more ≡ []) → end_on command (taken ++ more) true ≡ end_on command taken ended
 
 -- where it stops reading
 abbrev pub StopsAt : Option Command → List ℕ → Bool → Type 0
