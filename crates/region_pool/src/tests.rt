@@ -84,6 +84,15 @@ fn counts_what_is_taken(rt: HostRuntime) -> Result<(), Fail> {
     for (frame, taken) in [(0, true), (1, false), (2, true), (3, true), (4, false)] {
         assert_eq!(rt; pool.is_taken(frame), taken, "frame {frame}");
     }
+    for (frame, span) in [
+        (0, Some((0, 1))),
+        (1, None),
+        (2, Some((2, 2))),
+        (3, Some((2, 2))),
+        (4, None),
+    ] {
+        assert_eq!(rt; pool.span_at(frame), span, "frame {frame}");
+    }
     assert_eq!(rt; pool.taken(), 3);
     pool.give(host);
     assert_eq!(rt; (pool.taken(), pool.is_taken(0)), (2, false));
