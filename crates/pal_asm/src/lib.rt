@@ -1,5 +1,5 @@
-//! The assembler of the i386 profile and its listing: text to code in chosen spellings, and code to text that assembles
-//! to it again. docs/ASSEMBLER.md has the language.
+//! The assembler of the i386 profile and its listing: text to code in chosen spellings, and code to text, which assembles
+//! to the code again where that is in chosen spellings. docs/ASSEMBLER.md has the language.
 #![tactic(auto)]
 
 mod assembling;

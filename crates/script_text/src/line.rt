@@ -67,7 +67,7 @@ pub enum LineFault {
     Number,
     /// 6: a word that has to be an Expression is none.
     Expression,
-    /// 7: a word that has to be a Name is none.
+    /// 7: a word that has to be a Name is none, or one that has to be `pal` or `job` is neither.
     Name,
     /// There was no memory for the event.
     NoMemory,
