@@ -1,16 +1,15 @@
 -- The text of a call that ended with status 0, 1 or 2.
-use Rattle.std.proofs.Common.{◌≡◌, ◌≢◌, ◌⊎◌, inl, inr, ℕ, ◌+◌, ◌≤◌, true, false, Bool, List, [], ◌++◌, length, refl, sym, ap, ◌∙◌, subst, arith, length-append, append-nil}
+use Rattle.std.proofs.Common.{◌≡◌, inl, inr, ℕ, ◌+◌, ◌≤◌, true, false, Bool, List, [], ◌++◌, length, map, refl, sym, ap, ◌∙◌, subst, arith, length-append, append-nil}
 use Rattle.std.specs.Prelude.{Option, Some, None, Result, Ok, Err, nat_lt}
 use Rattle.std.specs.Io.KnownBytes.{Appends, Consumes}
 use Rattle.std.proofs.KnownBytes.{Consumes-nil}
 use Rattle.std.proofs.lemmas.Bool.Decides.{nat_tests}
 use Rattle.script_text.specs.Lines.{script_lines}
 use Rattle.script_text.specs.declared.line.BadLine.{BadLine as Bad}
-use Rattle.std.specs.FinMap.{empty}
-use Rattle.flk_run.specs.Parts.{Machine, Experiment, Stands}
+use Rattle.flk_run.specs.Parts.{as_host, Machine, Experiment, Stands}
 use Rattle.flk_run.specs.Events.{transcript}
 use Rattle.flk_run.specs.Script.{first_bad, good_requests}
-use Rattle.flk_run.specs.Runs.{AllDone, Takes}
+use Rattle.flk_run.specs.Runs.{AllDone}
 use Rattle.flk_run.proofs.SplitLemmas.{the_end, tells_end}
 use Rattle.flicker_cli.specs.declared.words.Command.{Command}
 use Rattle.flicker_cli.specs.declared.words.Command.TheVariants.{Run, Filter}
@@ -21,10 +20,10 @@ use Rattle.flicker_cli.specs.declared.outcome.BadInput.TheVariants.{TooLong}
 use Rattle.flicker_cli.specs.declared.outcome.Outcome.{Outcome}
 use Rattle.flicker_cli.specs.declared.outcome.Outcome.TheVariants.{Done, BadLine, BadInput, ReadFault, WriteFault, NoMemory}
 use Rattle.flicker_cli.specs.Filters.{most_input, fault_of, fault_in, or_nothing, IsListing, Filters, assembled, code_in, measured}
-use Rattle.flicker_cli.specs.Inputs.{IsInput, TakesInput, Filtered, Refused}
+use Rattle.flicker_cli.specs.Inputs.{IsInput, Filtered, Refused}
 use Rattle.flicker_cli.specs.Messages.{usage_message, outcome_message, outcome_status}
 use Rattle.flicker_cli.specs.Text.{script_end, input_end, end_on}
-use Rattle.flicker_cli.specs.Answered.{Streams, Begins, IsText, Untouched, begun}
+use Rattle.flicker_cli.specs.Answered.{Streams, IsText, Untouched, begun}
 use Rattle.flicker_cli.specs.Telling.{Tried, Ends}
 use Rattle.flicker_cli.proofs.MessageLemmas.{whole_message, kept}
 
@@ -115,7 +114,7 @@ text_script old new status from at bad d m s none = record {
   err = subst (λ b. Appends old.err new.err (outcome_message (script_end b))) (sym d.judged) m;
   status_is = s ∙ ap (λ b. outcome_status (script_end b)) (sym d.judged);
   done = λ p h.
-      let w = d.done p (record { stands = h.stands; variables = sym h.unbound }) in
+      let w = d.done p (record { stands = h.stands; variables = sym h.unbound; spans = sym (ap (map as_host) h.untaken) }) in
       record { out = transcript 1 (good_requests 1 (script_lines d.taken d.ended)) p; is = refl; written = w.written; stands = w.at.stands };
   settled = λ more ends. ap script_end (d.stays more ends ∙ sym d.judged);
   kept = tt;
@@ -129,22 +128,22 @@ same_machine : {a b : Experiment} → a ≡ b → a.machine ≡ b.machine
 same_machine e = ap (λ (x : Experiment). x.machine) e
 
 text_done : (command : Command) (old new : Streams) (status : ℕ) (from at : Machine) → Ends command Done old new status from at → IsText (Some command) old new status from at
-text_done Run old new status from at e = text_script old new status from (record { machine = at; variables = e.left.0 }) None e.left.1 (kept old.err new.err e.told.1) e.told.0 (λ zero. refl)
-text_done (Filter which) old new status from at e = text_filtered which old new status from at e.left.1.0 (same_machine e.left.1.1) (kept old.err new.err e.told.1) e.told.0
+text_done Run old new status from at e = text_script old new status from (record { machine = at; variables = e.left.0; spans = e.left.1 }) None e.left.2 (kept old.err new.err e.told.1) e.told.0 (λ zero. refl)
+text_done (Filter which) old new status from at e = text_filtered which old new status from at e.left.2.0 (same_machine e.left.2.1) (kept old.err new.err e.told.1) e.told.0
 
 text_bad_line : (command : Command) (n : ℕ) (bad : Bad) (old new : Streams) (status : ℕ) (from at : Machine) → Ends command (BadLine n bad) old new status from at → status ≤ 2
     → IsText (Some command) old new status from at
 text_bad_line Run n bad old new status from at e few =
     let w = whole_message _ 1 old.err new.err old.err_faults new.err_faults status e.told (omega arith) in
-    text_script old new status from (record { machine = at; variables = e.left.0 }) (Some (n, bad)) e.left.1 w.1 w.0 (λ zero. absurd (omega (arith, w.0)))
-text_bad_line (Filter which) n bad old new status from at e few = absurd e.left.1.0
+    text_script old new status from (record { machine = at; variables = e.left.0; spans = e.left.1 }) (Some (n, bad)) e.left.2 w.1 w.0 (λ zero. absurd (omega (arith, w.0)))
+text_bad_line (Filter which) n bad old new status from at e few = absurd e.left.2.0
 
 text_bad_input : (command : Command) (bad : Fault) (old new : Streams) (status : ℕ) (from at : Machine) → Ends command (BadInput bad) old new status from at → status ≤ 2
     → IsText (Some command) old new status from at
-text_bad_input Run bad old new status from at e few = absurd e.left.1
+text_bad_input Run bad old new status from at e few = absurd e.left.2
 text_bad_input (Filter which) bad old new status from at e few =
     let w = whole_message _ 1 old.err new.err old.err_faults new.err_faults status e.told (omega arith) in
-    text_refused which bad old new status from at e.left.1.0 (same_machine e.left.1.1) w.1 w.0
+    text_refused which bad old new status from at e.left.2.0 (same_machine e.left.2.1) w.1 w.0
 
 pub text_command : (command : Command) (outcome : Outcome) (old new : Streams) (status : ℕ) (from at : Machine) → Ends command outcome old new status from at → status ≤ 2
     → IsText (Some command) old new status from at
@@ -207,11 +206,11 @@ bad_input which content source (Some rest) out out' bad same good d =
 -- a source of the command's form has no bad line
 pub no_bad_line : (command : Command) (n : ℕ) (bad : Bad) (content : List ℕ) (old new : Streams) (status : ℕ) (from at : Machine) → Ends command (BadLine n bad) old new status from at
     → old.source ≡ Some content → end_on command content true ≡ Done → ⊥
-no_bad_line Run n bad content old new status from at e same good = bad_script content old.source new.source old.out new.out (begun from) (record { machine = at; variables = e.left.0 }) (n, bad) same good e.left.1
-no_bad_line (Filter which) n bad content old new status from at e same good = e.left.1.0
+no_bad_line Run n bad content old new status from at e same good = bad_script content old.source new.source old.out new.out (begun from) (record { machine = at; variables = e.left.0; spans = e.left.1 }) (n, bad) same good e.left.2
+no_bad_line (Filter which) n bad content old new status from at e same good = e.left.2.0
 
 -- nor is it bad as an input
 pub no_bad_input : (command : Command) (bad : Fault) (content : List ℕ) (old new : Streams) (status : ℕ) (from at : Machine) → Ends command (BadInput bad) old new status from at
     → old.source ≡ Some content → end_on command content true ≡ Done → ⊥
-no_bad_input Run bad content old new status from at e same good = e.left.1
-no_bad_input (Filter which) bad content old new status from at e same good = bad_input which content old.source new.source old.out new.out bad same good e.left.1.0
+no_bad_input Run bad content old new status from at e same good = e.left.2
+no_bad_input (Filter which) bad content old new status from at e same good = bad_input which content old.source new.source old.out new.out bad same good e.left.2.0

@@ -2,6 +2,7 @@
 use Rattle.std.proofs.Common.{◌≡◌, ◌≢◌, ◌⊎◌, inl, inr, ℕ, ◌≤◌, true, List, [], refl, subst, arith}
 use Rattle.std.specs.Prelude.{Option, Some, None}
 use Rattle.std.specs.FinMap.{empty}
+use Rattle.region_pool.specs.Spans.{Span}
 use Rattle.script_text.specs.Variables.{Table}
 use Rattle.flk_base.specs.Causes.{Rose}
 use Rattle.flk_run.specs.Parts.{Machine, Experiment}
@@ -145,8 +146,12 @@ wants_first (Filter which) source out from = (inl (record { taken = []; takes = 
 
 -- ---- from a runner to its machine
 
--- what a command did that began with no name bound
-pub left_of : (command : Command) (outcome : Outcome) (s t a b : Option (List ℕ)) (from at : Experiment) → from.variables ≡ empty → CommandRan command outcome s t a b from at
-    → (variables : Table) × CommandRan command outcome s t a b (begun from.machine) (record { machine = at.machine; variables = variables })
-left_of command outcome s t a b from at unbound ran =
-    (at.variables, subst (λ (v : Table). CommandRan command outcome s t a b (record { machine = from.machine; variables = v }) at) unbound ran)
+-- what a command did that began with no name bound and no span taken
+pub left_of : (command : Command) (outcome : Outcome) (s t a b : Option (List ℕ)) (from at : Experiment) → from.variables ≡ empty → from.spans ≡ [] → CommandRan command outcome s t a b from at
+    → (variables : Table) × (spans : List Span) × CommandRan command outcome s t a b (begun from.machine) (record { machine = at.machine; variables = variables; spans = spans })
+left_of command outcome s t a b from at unbound untaken ran = (
+  at.variables,
+  at.spans,
+  subst (λ (spans : List Span). CommandRan command outcome s t a b (record { machine = from.machine; variables = empty; spans = spans }) at) untaken
+      (subst (λ (v : Table). CommandRan command outcome s t a b (record { machine = from.machine; variables = v; spans = from.spans }) at) unbound ran),
+)

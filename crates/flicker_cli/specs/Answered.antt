@@ -1,11 +1,13 @@
 -- What each answer of the top call says of all that it was handed. What is done and written is said for
--- every platform that the board and the disk held and on which no name is bound; a blank board holds the blank one.
+-- every platform that the board and the disk held, on which no name is bound and no span is taken; a blank board
+-- holds the blank one.
 use Rattle.std.specs.Prelude.{◌≡◌, ◌≢◌, ◌⊎◌, ℕ, ◌≤◌, List, [], Bool, true, Option, Some, None}
 use Rattle.std.specs.Io.KnownBytes.{Appends}
 use Rattle.flk_base.specs.Causes.{Rose}
 use Rattle.flk_base.specs.Told.{AppendsFront}
 use Rattle.flk_run.specs.Platform.{Platform}
 use Rattle.std.specs.FinMap.{empty}
+use Rattle.region_pool.specs.Spans.{Span}
 use Rattle.script_text.specs.Variables.{Table}
 use Rattle.flk_run.specs.Parts.{Machine, Experiment, Stands}
 use Rattle.flk_run.specs.Runs.{Takes, AllDone, ReadShort, WrittenShort, Wanting}
@@ -26,10 +28,11 @@ pub record Streams : Type 0 where
   pub out_faults : ℕ
   pub err_faults : ℕ
 
--- the machine is at the platform, and no name is bound
+-- the machine is at the platform, no name is bound, and no span is taken
 pub record Begins (p : Platform) (from : Machine) : Type 0 where
   pub stands : Stands p from
   pub unbound : p.variables ≡ empty
+  pub untaken : p.memory.spans ≡ []
 
 -- ---- statuses 0, 1 and 2
 
@@ -91,15 +94,15 @@ abbrev pub CommandRan : Command → Outcome → Option (List ℕ) → Option (Li
 CommandRan Run outcome source source' out out' from at = ScriptRan outcome source source' out out' from at
 CommandRan (Filter which) outcome source source' out out' from at = FilterRan which outcome source source' out out' × (at ≡ from)
 
--- the experiment that a call begins: no name is bound
+-- the experiment that a call begins: no name is bound, and there is no ticket
 abbrev pub begun : Machine → Experiment
-begun machine = record { machine = machine; variables = empty }
+begun machine = record { machine = machine; variables = empty; spans = [] }
 
--- what was read, done and written to out; what the script bound is given up
+-- what was read, done and written to out; what the script bound is given up, and so are its tickets
 abbrev pub Left : CallEnd → Streams → Streams → Machine → Machine → Type 0
 Left Usage old new from at = Untouched old new from at
 Left (Ended command outcome) old new from at =
-    (variables : Table) × CommandRan command outcome old.source new.source old.out new.out (begun from) (record { machine = at; variables = variables })
+    (variables : Table) × (spans : List Span) × CommandRan command outcome old.source new.source old.out new.out (begun from) (record { machine = at; variables = variables; spans = spans })
 
 -- a fault that this outcome names was counted in the call
 pub record IsCaused (outcome : Outcome) (old new : Streams) : Type 0 where

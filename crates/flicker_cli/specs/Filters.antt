@@ -1,6 +1,6 @@
 -- The filters, the commands that read their whole input: why an input is not of a filter's form, and what is written of
 -- one that is.
-use Rattle.std.specs.Prelude.{◌≡◌, ℕ, ◌==◌, ◌||◌, not, nat_lt, Bool, List, [], ◌∷◌, ◌++◌, length, filter, codes, Option, Some, None, Result, Ok, Err, if◌then◌else◌}
+use Rattle.std.specs.Prelude.{◌≡◌, ℕ, ◌==◌, ◌||◌, not, nat_lt, Bool, List, [], ◌++◌, length, filter, codes, Option, Some, None, Result, Ok, Err, if◌then◌else◌}
 use Rattle.hex.specs.Hex.{decode_of, encode_lower}
 use Rattle.sha1.specs.Sha1.{sha1}
 use Rattle.slb_image.specs.Faults.{image_fault}

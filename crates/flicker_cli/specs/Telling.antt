@@ -6,7 +6,7 @@ use Rattle.flk_base.specs.Told.{AppendsFront}
 use Rattle.flk_run.specs.Parts.{Machine}
 use Rattle.flicker_cli.specs.declared.words.Command.{Command}
 use Rattle.flicker_cli.specs.declared.outcome.Outcome.{Outcome}
-use Rattle.flicker_cli.specs.declared.outcome.Outcome.TheVariants.{Done, BadLine, BadInput, ReadFault, WriteFault, NoMemory}
+use Rattle.flicker_cli.specs.declared.outcome.Outcome.TheVariants.{Done, BadLine, ReadFault, WriteFault, NoMemory}
 use Rattle.flk_run.specs.declared.run.RunEnd.{RunEnd}
 use Rattle.flk_run.specs.declared.run.RunEnd.TheVariants as run
 use Rattle.flicker_cli.specs.Messages.{outcome_message, outcome_status}

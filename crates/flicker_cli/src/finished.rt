@@ -1,5 +1,6 @@
 // What is left when a call has ended.
 ghost use Rattle.std.specs.Prelude.{◌≡◌};
+ghost use Rattle.flk_run.specs.Parts.{HoldsSpans};
 
 use flk_run::{Board, SimDisk, Spans};
 
@@ -15,6 +16,7 @@ pub struct Finished {
 impl Finished {
     /// Gives the spans back, and answers the status.
     pub fn exit(self) -> u8
+        requires { HoldsSpans self.board.memory.marks self.spans }
         ensures { result ≡ self.status }
     {
         let Finished {

@@ -1,7 +1,8 @@
 // The top call.
-ghost use Rattle.std.specs.Prelude.{◌≡◌, ◌⊎◌, ◌≤◌, ℕ, List, map, true, Some, None, string_bytes};
+ghost use Rattle.std.specs.Prelude.{◌≡◌, ◌⊎◌, ◌≤◌, ℕ, List, [], map, true, Some, None, string_bytes};
 ghost use Rattle.std.specs.FinMap.{empty};
 ghost use Rattle.flk_base.specs.Causes.{Rose};
+ghost use Rattle.flk_run.specs.Parts.{HoldsSpans};
 ghost use Rattle.flicker_cli.specs.declared.words.Command.{Command as CommandView};
 ghost use Rattle.flicker_cli.specs.declared.outcome.Outcome.{Outcome as OutcomeView};
 ghost use Rattle.flicker_cli.specs.declared.outcome.Outcome.TheVariants.{Done};
@@ -64,6 +65,9 @@ pub fn flicker<S: Source, K: Sink, E: Sink>(
         → (content : List ℕ) → S.left source.old ≡ Some content → end_on task content true ≡ Done
         → (result.status ≡ 0) ⊎ (result.status ≡ 5) ⊎ Rose (S.fault_count source.old) (S.fault_count source.new)
         ⊎ Rose (K.fault_count out.old) (K.fault_count out.new) ⊎ Rose (E.fault_count err.old) (E.fault_count err.new) }
+
+    // The board's memory holds the spans, so `exit` may be called.
+    ensures held { HoldsSpans result.board.memory.marks result.spans }
 {
     let runner = Runner::new(alloc, board, disk);
     match command_of(words) {
@@ -87,7 +91,8 @@ fn run<S: Source, K: Sink, E: Sink>(
     err: &mut E,
     runner: Runner,
 ) -> (Runner, u8)
-    requires { runner.variables ≡ empty }
+    requires unbound { runner.variables ≡ empty }
+    requires untaken { runner.spans ≡ [] }
     ensures { (outcome : OutcomeView) × Ends command outcome
         (record {
           source = S.left source.old;
@@ -161,6 +166,7 @@ fn finished(runner: Runner, status: u8) -> Finished
     ensures status { result.status ≡ status }
     ensures board { result.board ≡ runner.machine.board }
     ensures disk { result.disk ≡ runner.machine.disk }
+    ensures held { HoldsSpans result.board.memory.marks result.spans }
 {
     let (board, disk, spans) = runner.finish();
     Finished {

@@ -5,6 +5,8 @@ use Rattle.slb_image.specs.declared.fault.ImageFault.{ImageFault}
 use Rattle.std.proofs.lemmas.List.{map-set, get_or-map, length-set}
 use Rattle.std.proofs.lemmas.Bool.Decides.{nat_tests}
 use Rattle.tpm_state.specs.Chain.{Chain, ◌▷◌, extended, value, chain_of, with_text, launch_chain, register_count}
+use Rattle.region_pool.specs.Spans.{Span}
+use Rattle.machine_memory.specs.Contents.{Contents}
 use Rattle.script_text.specs.Variables.{Table}
 use Rattle.flk_run.specs.declared.board.SimDisk.{SimDisk}
 use Rattle.flk_run.specs.Platform.{Platform}
@@ -12,7 +14,7 @@ use Rattle.script_text.specs.Grammar.{Request}
 use Rattle.flk_run.specs.Answers.{Done, line_of}
 use Rattle.flk_run.specs.Tasks.{Task, task_of}
 use Rattle.flk_run.specs.Events.{host_front, extended_by_host, done, step}
-use Rattle.flk_run.specs.Parts.{BoardParts, Experiment, IsAt, experiment}
+use Rattle.flk_run.specs.Parts.{BoardParts, Experiment, MemoryStands, IsAt, experiment}
 use Rattle.flk_run.specs.Seen.{StepDone}
 
 -- an extend of the values is one of the chains
@@ -23,10 +25,10 @@ extended_chains chains r text h =
     ap (λ v. slice_set (map value chains) r (extended v text)) at ∙ sym (map-set value chains r (chain_of chains r ▷ text))
 
 -- a board whose register was extended holds the chains of which that one has grown
-pub stands_extended : (p : Platform) (board new : BoardParts) (disk : SimDisk) (table : Table) (r : ℕ) (text : List ℕ) → IsAt p (experiment board disk table) → r < register_count
+pub stands_extended : (p : Platform) (board new : BoardParts) (disk : SimDisk) (table : Table) (spans : List Span) (r : ℕ) (text : List ℕ) → IsAt p (experiment board disk table spans) → r < register_count → new.memory ≡ board.memory
     → new.registers ≡ slice_set board.registers r (extended (slice_index_or board.registers r []) (host_front ++ text))
-    → IsAt (record p { chains = with_text p.chains r (host_front ++ text) }) (experiment new disk table)
-stands_extended p board new disk table r text s few n =
+    → IsAt (record p { chains = with_text p.chains r (host_front ++ text) }) (experiment new disk table spans)
+stands_extended p board new disk table spans r text s few same n =
     let at : r < length p.chains = omega (arith, s.stands.count) in
     record {
       stands = record {
@@ -35,18 +37,20 @@ stands_extended p board new disk table r text s few n =
             n
             ∙ ap (λ vs. slice_set vs r (extended (slice_index_or vs r []) (host_front ++ text))) s.stands.registers
             ∙ extended_chains p.chains r (host_front ++ text) at;
+        memory = subst (λ (c : Contents). MemoryStands p.memory c) (sym same) s.stands.memory;
       };
       variables = s.variables;
+      spans = s.spans;
     }
 
 -- the step of a host's extend
-pub extend_done : (n : ℕ) (p : Platform) (board new : BoardParts) (disk : SimDisk) (table : Table) (r : ℕ) (text out out' : List ℕ) → IsAt p (experiment board disk table) → (register_count ≤ r → ⊥)
+pub extend_done : (n : ℕ) (p : Platform) (board new : BoardParts) (disk : SimDisk) (table : Table) (spans : List Span) (r : ℕ) (text out out' : List ℕ) → IsAt p (experiment board disk table spans) → (register_count ≤ r → ⊥) → new.memory ≡ board.memory
     → new.registers ≡ slice_set board.registers r (extended (slice_index_or board.registers r []) (host_front ++ text)) → out' ≡ out ++ line_of n Done
-    → StepDone n (extended_by_host r text p) (experiment new disk table) out out'
-extend_done n p board new disk table r text out out' s few grown written =
+    → StepDone n (extended_by_host r text p) (experiment new disk table spans) out out'
+extend_done n p board new disk table spans r text out out' s few same grown written =
     let at : r < register_count = omega arith in
     let is : nat_lt r register_count ≡ true = grind (arith, nat_tests, at) in
-    rw is (record { at = stands_extended p board new disk table r text s at grown; written = written })
+    rw is (record { at = stands_extended p board new disk table spans r text s at same grown; written = written })
 
 -- an event is done where the task is done that it comes to
 pub event_done : (n : ℕ) (request : Request) (p : Platform) (task : Task) (old new : Experiment) (out made out' : List ℕ) → IsAt p old → task ≡ task_of request old.variables → made ≡ out

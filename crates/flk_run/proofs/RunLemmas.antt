@@ -18,11 +18,11 @@ use Rattle.script_text.proofs.LineLemmas.{long_first, some_first}
 use Rattle.flk_run.specs.declared.run.LineRun.{LineRun}
 use Rattle.flk_run.specs.declared.run.LineRun.TheVariants as run
 use Rattle.flk_run.specs.Platform.{Platform}
-use Rattle.flk_run.specs.Events.{transcript_line, transcript, after_all}
+use Rattle.flk_run.specs.Events.{after, transcript_line, transcript, after_all}
 use Rattle.flk_run.specs.Parts.{Experiment, IsAt}
 use Rattle.flk_run.specs.Script.{good_requests, first_bad}
 use Rattle.flk_run.specs.Runs.{Takes, IsNear, Written, AllWritten, LineCut, AllDone, ReadShort, WrittenShort, Wanting}
-use Rattle.flk_run.specs.LineRuns.{EventDone, EventCut, NotBegun, EventRan, LineRan}
+use Rattle.flk_run.specs.LineRuns.{AppendsPart, PutRan, EventDone, EventCut, NotBegun, EventRan, LineRan}
 use Rattle.flk_run.proofs.ScriptLemmas.{good-append, length-good, bad_behind, good_behind, one_more, transcript-append, after_all-append, judged_good, judged_long, judged_many}
 use Rattle.flk_run.proofs.SplitLemmas.{Split, Stepped, Goes, nothing_held, split_begins, split_line, split_all, given_first, more_goes, behind_fewer, the_end, tells_end, tells_all, seen_end, told_then, open_rest}
 
@@ -349,3 +349,13 @@ wants_all s a from = record {
   takes = record { consumed = Consumes-nil s; end = tells_end false s (λ e. absurd (cc)) };
   done = inl (record { before = []; later = []; are = refl; done = λ p h. record { written = Appends-nil a; at = h } });
 }
+
+-- ---- one event
+
+-- an event was done, and its line was put
+pub event_put : (end : LineRun) (n : ℕ) (request : Request) (out out' : Option (List ℕ)) (old new : Experiment) (piece : List ℕ) → PutRan end out out' piece
+    → ((p : Platform) → IsAt p old → piece ≡ transcript_line n request p) → ((p : Platform) → IsAt p old → IsAt (after request p) new) → EventRan end n request out out' old new
+event_put run.Done n request out out' old new piece put is at = λ p s. record { written = subst (λ (xs : List ℕ). Appends out out' xs) (is p s) put; at = at p s }
+event_put run.WriteFault n request out out' old new piece put is at = λ p s. record { written = subst (λ (xs : List ℕ). AppendsPart out out' xs) (is p s) put; at = at p s }
+event_put run.NoMemory n request out out' old new piece put is at = inr (λ p s. record { written = subst (λ (xs : List ℕ). AppendsPart out out' xs) (is p s) put; at = at p s })
+event_put (run.Bad fault) n request out out' old new piece put is at = put

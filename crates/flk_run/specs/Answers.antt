@@ -6,7 +6,7 @@ use Rattle.script_text.specs.declared.value.ExprFault.TheVariants as expr
 use Rattle.slb_image.specs.declared.fault.ImageFault.{ImageFault}
 use Rattle.slb_image.specs.declared.fault.ImageFault.TheVariants as image
 use Rattle.flk_run.specs.declared.answers.Refusal.{Refusal}
-use Rattle.flk_run.specs.declared.answers.Refusal.TheVariants.{NoRegister, NoValue, NoImage}
+use Rattle.flk_run.specs.declared.answers.Refusal.TheVariants.{NoRegister, NoValue, NoImage, NoRoom, NoSpan, NoTaken, NoLong, NoBlocked}
 
 -- an answer: none, that it was done, with a number, with bytes, or why it was not
 pub data Answer : Type 0 where
@@ -39,6 +39,11 @@ abbrev pub refusal_text : Refusal → List ℕ
 refusal_text NoRegister = codes "no register"
 refusal_text (NoValue fault) = fault_text fault
 refusal_text (NoImage fault) = codes "no image " ++ decimal (fault_number fault)
+refusal_text NoRoom = codes "no room"
+refusal_text NoSpan = codes "no span"
+refusal_text NoTaken = codes "no taken"
+refusal_text NoLong = codes "no long"
+refusal_text NoBlocked = codes "no blocked"
 
 -- line n of the transcript: its number, a space, the text, LF
 abbrev pub numbered : ℕ → List ℕ → List ℕ

@@ -1,5 +1,5 @@
 -- How clauses see what the code holds while it does an event.
-use Rattle.std.specs.Prelude.{◌≡◌, ◌⊎◌, ℕ, ◌+◌, ◌*◌, ◌≤◌, List, ◌++◌, length, Bool, true, false}
+use Rattle.std.specs.Prelude.{◌≡◌, ℕ, ◌+◌, ◌*◌, ◌≤◌, List, ◌++◌, length, Bool, true, false}
 use Rattle.script_text.specs.Grammar.{Request}
 use Rattle.script_text.specs.Seen.{IsShortName}
 use Rattle.script_text.specs.Values.{longest_value}
@@ -7,11 +7,11 @@ use Rattle.flk_run.specs.declared.runner.StepEnd.{StepEnd}
 use Rattle.flk_run.specs.declared.runner.StepEnd.TheVariants.{Done, NoMemory}
 use Rattle.flk_run.specs.declared.tasks.Task.{Task as HeldTask}
 use Rattle.flk_run.specs.declared.tasks.Task.TheVariants as held
-use Rattle.flk_run.specs.Answers.{Answer, line_of}
+use Rattle.flk_run.specs.Answers.{line_of}
 use Rattle.flk_run.specs.Events.{Step, step}
 use Rattle.flk_run.specs.Parts.{Experiment, IsAt}
 use Rattle.flk_run.specs.Platform.{Platform}
-use Rattle.flk_run.specs.Tasks.{Task, Rest, Refuse, Extend, Read, Bind, Show, BindImage}
+use Rattle.flk_run.specs.Tasks.{Task, Rest, Refuse, Extend, Read, Bind, Show, BindImage, Take, Give, Poke, Peek, Dma}
 
 -- the task, with bytes in place of what holds them
 abbrev pub seen : HeldTask → Task
@@ -22,6 +22,11 @@ seen (held.Read r) = Read r
 seen (held.Bind name value) = Bind name.now value.bytes
 seen (held.Show value) = Show value.bytes
 seen (held.BindImage name image) = BindImage name.now image.bytes
+seen (held.Take frames) = Take frames
+seen (held.Give at) = Give at
+seen (held.Poke at bytes) = Poke at bytes.bytes
+seen (held.Peek at bytes) = Peek at (length bytes.items)
+seen (held.Dma at bytes) = Dma at bytes.bytes
 
 -- the name that a task binds has 1 to 16 bytes
 abbrev pub IsNamed : Task → Type 0
@@ -29,9 +34,10 @@ IsNamed (Bind name value) = IsShortName name
 IsNamed (BindImage name image) = IsShortName name
 IsNamed _ = Unit {0}
 
--- a value that a task shows is that of an expression, so it has at most 65,536 bytes
+-- what a task shows has at most 65,536 bytes
 abbrev pub IsShown : Task → Type 0
 IsShown (Show bytes) = length bytes ≤ longest_value
+IsShown (Peek at count) = count ≤ longest_value
 IsShown _ = Unit {0}
 
 -- a task binds a name
@@ -40,9 +46,15 @@ binds (Bind name value) = true
 binds (BindImage name image) = true
 binds _ = false
 
+-- a task takes a span
+abbrev pub takes : Task → Bool
+takes (Take frames) = true
+takes _ = false
+
 -- the room that the line of a task's answer may need
 abbrev pub room : Task → ℕ
 room (Show bytes) = 64 + 2 * length bytes
+room (Peek at count) = 64 + 2 * count
 room _ = 104
 
 -- a step was done, and its line is written behind what was there

@@ -1,18 +1,19 @@
 -- What an event comes to once its expressions have their values, which is first.
-use Rattle.std.specs.Prelude.{ℕ, List, Option, Some, None, Result, Ok, Err}
+use Rattle.std.specs.Prelude.{ℕ, nat_lt, List, Option, Some, None, Result, Ok, Err, if◌then◌else◌}
 use Rattle.script_text.specs.Expressions.{Term}
 use Rattle.script_text.specs.Variables.{Table}
-use Rattle.script_text.specs.Values.{value_of}
-use Rattle.script_text.specs.Grammar.{Request, Nothing, ExtendBy, ReadOf, LetBe, ShowOf, ImageOf}
+use Rattle.script_text.specs.Values.{value_of, longest_value}
+use Rattle.script_text.specs.Grammar.{Request, Nothing, ExtendBy, ReadOf, LetBe, ShowOf, ImageOf, TakeOf, GiveAt, PokeAt, PeekAt, DmaAt}
 use Rattle.script_text.specs.declared.value.ExprFault.{ExprFault}
 use Rattle.slb_image.specs.Image.{pack}
 use Rattle.slb_image.specs.Faults.{build_fault}
 use Rattle.slb_image.specs.declared.fault.ImageFault.{ImageFault}
 use Rattle.flk_run.specs.declared.answers.Refusal.{Refusal}
-use Rattle.flk_run.specs.declared.answers.Refusal.TheVariants.{NoRegister, NoValue, NoImage}
+use Rattle.flk_run.specs.declared.answers.Refusal.TheVariants.{NoValue, NoImage, NoLong}
 
 -- nothing; to answer a refusal; to extend a register by a text; to read one; to bind a name to a value; to show a
--- value; or to bind a name to an image, and to answer how long it is
+-- value; to bind a name to an image, and to answer how long it is; or to take a span of memory, to give one back, to
+-- write bytes into one, to show bytes of one, or to have a device write bytes
 pub data Task : Type 0 where
   Rest : Task
   Refuse : (why : Refusal) → Task
@@ -21,6 +22,11 @@ pub data Task : Type 0 where
   Bind : (name : List ℕ) → (value : List ℕ) → Task
   Show : (bytes : List ℕ) → Task
   BindImage : (name : List ℕ) → (image : List ℕ) → Task
+  Take : (frames : ℕ) → Task
+  Give : (at : ℕ) → Task
+  Poke : (at : ℕ) → (bytes : List ℕ) → Task
+  Peek : (at : ℕ) → (count : ℕ) → Task
+  Dma : (at : ℕ) → (bytes : List ℕ) → Task
 
 -- the task for a value; the fault of an expression that has none is the answer
 abbrev pub given : Result (List ℕ) ExprFault → (List ℕ → Task) → Task
@@ -36,6 +42,10 @@ abbrev pub imaged : List ℕ → Option ImageFault → List ℕ → Task
 imaged name None image = BindImage name image
 imaged name (Some fault) image = Refuse (NoImage fault)
 
+-- to show so many bytes, where they are no more than a value may have
+abbrev pub peeked : ℕ → ℕ → Task
+peeked at count = if nat_lt longest_value count then Refuse NoLong else Peek at count
+
 -- what a request comes to
 abbrev pub task_of : Request → Table → Task
 task_of Nothing table = Rest
@@ -45,3 +55,8 @@ task_of (LetBe name value) table = evaluated value table (λ bytes. Bind name by
 task_of (ShowOf value) table = evaluated value table (λ bytes. Show bytes)
 task_of (ImageOf name job entry budget code) table =
     evaluated code table (λ bytes. imaged name (build_fault entry budget bytes) (pack entry budget job bytes))
+task_of (TakeOf frames) table = Take frames
+task_of (GiveAt at) table = Give at
+task_of (PokeAt at bytes) table = evaluated bytes table (λ value. Poke at value)
+task_of (PeekAt at count) table = peeked at count
+task_of (DmaAt at bytes) table = evaluated bytes table (λ value. Dma at value)

@@ -17,6 +17,16 @@ pub enum Refusal {
     NoValue(ExprFault),
     /// The values have no image.
     NoImage(ImageFault),
+    /// No frame begins so many free ones, or no frames were asked for.
+    NoRoom,
+    /// No span of the host starts at the address.
+    NoSpan,
+    /// The bytes lie in no one span.
+    NoTaken,
+    /// More bytes are asked for than a value may have.
+    NoLong,
+    /// Some byte lies in no span, so no device may write it.
+    NoBlocked,
 }
 
 // The number of a line, and a space.
@@ -121,5 +131,10 @@ pub(crate) fn put_refusal(out: &mut Bytes, number: u32, refusal: Refusal)
         Refusal::NoRegister => put_line(out, number, b"no register"),
         Refusal::NoValue(fault) => put_line(out, number, fault_text(fault)),
         Refusal::NoImage(fault) => put_no_image(out, number, fault),
+        Refusal::NoRoom => put_line(out, number, b"no room"),
+        Refusal::NoSpan => put_line(out, number, b"no span"),
+        Refusal::NoTaken => put_line(out, number, b"no taken"),
+        Refusal::NoLong => put_line(out, number, b"no long"),
+        Refusal::NoBlocked => put_line(out, number, b"no blocked"),
     }
 }

@@ -1,36 +1,44 @@
 // What an event does to the board and the variables.
-ghost use Rattle.std.specs.Prelude.{◌≡◌, ◌≤◌, ◌+◌, ◌*◌, length, true, OnOk};
+ghost use Rattle.std.specs.Prelude.{◌≡◌, ◌≤◌, ◌+◌, ◌*◌, List, length, true, vec_len, vec_capacity, OnOk};
 ghost use Rattle.script_text.specs.Seen.{request_of, HasShortName, IsShortName};
+ghost use Rattle.region_pool.specs.Spans.{Span};
 ghost use Rattle.flk_run.specs.declared.board.SimDisk.{SimDisk as DiskView};
 ghost use Rattle.flk_run.specs.Platform.{Platform};
 ghost use Rattle.flk_run.specs.Events.{done, extended_by_host, register_shown};
 ghost use Rattle.flk_run.specs.Tasks.{Bind, BindImage};
-ghost use Rattle.flk_run.specs.Parts.{BoardParts, IsAt, experiment};
+ghost use Rattle.flk_run.specs.Parts.{BoardParts, HoldsSpans, IsAt, experiment};
 ghost use Rattle.script_text.specs.Variables.{Table};
-ghost use Rattle.flk_run.specs.Seen.{seen, room, binds, IsNamed, StepDone, EventStepped};
+ghost use Rattle.flk_run.specs.Seen.{seen, room, binds, takes, IsNamed, StepDone, EventStepped};
 
 use crate::answers::{Refusal, put_count, put_done, put_refusal, put_value};
 use crate::board::Board;
+use crate::memory::{do_dma, do_give, do_peek, do_poke, do_take};
 use crate::runner::StepEnd;
+use crate::spans::room_for_ticket;
 use crate::tasks::{Task, task_of};
 use flk_base::{Bytes, NoMemory};
+use region_pool::Ticket;
 use script_text::{Event, Vars};
 use std::alloc::Global;
 
 /// Does an event where there is memory for it: for the values of its expressions, for its line of the
-/// transcript, and for the name that it binds. All of that is taken before anything changes.
+/// transcript, for the name that it binds, and for its ticket. All of that is taken before anything changes.
 pub(crate) fn do_event(
     alloc: Global,
     board: &mut Board,
     vars: &mut Vars,
+    tickets: &mut Vec<Ticket>,
     number: u32,
     event: &Event,
     answer: &mut Bytes,
 ) -> StepEnd
-    requires { HasShortName (request_of event.now) }
-    ensures { (disk : DiskView) → EventStepped result number (request_of event.now)
-        (experiment board.old disk vars.old.table) (experiment board.new disk vars.new.table)
+    requires named { HasShortName (request_of event.now) }
+    requires held { HoldsSpans board.old.memory.marks tickets.old.items }
+    ensures stepped { (disk : DiskView) → EventStepped result number (request_of event.now)
+        (experiment board.old disk vars.old.table tickets.old.items)
+        (experiment board.new disk vars.new.table tickets.new.items)
         answer.old.bytes answer.new.bytes }
+    ensures held { HoldsSpans board.new.memory.marks tickets.new.items }
 {
     let Ok(task) = task_of(alloc, event, vars) else {
         return StepEnd::NoMemory;
@@ -41,7 +49,10 @@ pub(crate) fn do_event(
     if room_for_name(&task, vars).is_err() {
         return StepEnd::NoMemory;
     }
-    do_task(board, vars, number, task, answer);
+    if room_for_span(&task, tickets).is_err() {
+        return StepEnd::NoMemory;
+    }
+    do_task(board, vars, tickets, number, task, answer);
     StepEnd::Done
 }
 
@@ -56,13 +67,34 @@ fn room_for_name(task: &Task<'_>, vars: &mut Vars) -> Result<(), NoMemory>
     Ok(())
 }
 
-// Does a task, for whose line and name there is room.
-fn do_task(board: &mut Board, vars: &mut Vars, number: u32, task: Task<'_>, answer: &mut Bytes)
+// Makes room for the ticket that a task takes, where it takes one.
+fn room_for_span(task: &Task<'_>, tickets: &mut Vec<Ticket>) -> Result<(), NoMemory>
+    ensures kept { tickets.new.items ≡ tickets.old.items }
+    ensures room { OnOk result (takes (seen task.now) ≡ true → vec_len tickets.new + 1 ≤ vec_capacity tickets.new) }
+{
+    if task.takes() {
+        return room_for_ticket(tickets);
+    }
+    Ok(())
+}
+
+// Does a task, for whose line, name and ticket there is room.
+fn do_task(
+    board: &mut Board,
+    vars: &mut Vars,
+    tickets: &mut Vec<Ticket>,
+    number: u32,
+    task: Task<'_>,
+    answer: &mut Bytes,
+)
     requires line { room (seen task) ≤ answer.old.spare }
     requires named { IsNamed (seen task) }
     requires free { binds (seen task) ≡ true → 1 ≤ vars.old.spare }
-    ensures { (p : Platform) (disk : DiskView) → IsAt p (experiment board.old disk vars.old.table)
-        → StepDone number (done (seen task.entry) p) (experiment board.new disk vars.new.table) answer.old.bytes answer.new.bytes }
+    requires ticket { takes (seen task) ≡ true → vec_len tickets.old + 1 ≤ vec_capacity tickets.old }
+    requires held { HoldsSpans board.old.memory.marks tickets.old.items }
+    ensures done { (p : Platform) (disk : DiskView) → IsAt p (experiment board.old disk vars.old.table tickets.old.items)
+        → StepDone number (done (seen task.entry) p) (experiment board.new disk vars.new.table tickets.new.items) answer.old.bytes answer.new.bytes }
+    ensures held { HoldsSpans board.new.memory.marks tickets.new.items }
 {
     match task {
         Task::Rest => {}
@@ -72,13 +104,19 @@ fn do_task(board: &mut Board, vars: &mut Vars, number: u32, task: Task<'_>, answ
         Task::Bind { name, value } => bind(vars, number, name, value, answer),
         Task::Show { value } => put_value(answer, number, value.as_slice()),
         Task::BindImage { name, image } => bind_image(vars, number, name, image, answer),
+        Task::Take { frames } => do_take(board, tickets, number, frames, answer),
+        Task::Give { at } => do_give(board, tickets, number, at, answer),
+        Task::Poke { at, bytes } => do_poke(board, number, at, bytes.as_slice(), answer),
+        Task::Peek { at, mut bytes } => do_peek(board, number, at, &mut bytes, answer),
+        Task::Dma { at, bytes } => do_dma(board, number, at, bytes.as_slice(), answer),
     }
 }
 
 fn extend(board: &mut Board, number: u32, r: u32, text: &[u8], answer: &mut Bytes)
     requires { 64 ≤ answer.old.spare }
-    ensures { (p : Platform) (disk : DiskView) (table : Table) → IsAt p (experiment board.old disk table)
-        → StepDone number (extended_by_host r text.now p) (experiment board.new disk table) answer.old.bytes answer.new.bytes }
+    ensures done { (p : Platform) (disk : DiskView) (table : Table) (spans : List Span) → IsAt p (experiment board.old disk table spans)
+        → StepDone number (extended_by_host r text.now p) (experiment board.new disk table spans) answer.old.bytes answer.new.bytes }
+    ensures memory { board.new.memory ≡ board.old.memory }
 {
     match board.extend(r, b"host", text) {
         Ok(()) => {
@@ -94,8 +132,8 @@ fn extend(board: &mut Board, number: u32, r: u32, text: &[u8], answer: &mut Byte
 
 fn read(board: &Board, number: u32, r: u32, answer: &mut Bytes)
     requires { 104 ≤ answer.old.spare }
-    ensures { (p : Platform) (disk : DiskView) (table : Table) → IsAt p (experiment board.now disk table)
-        → StepDone number (register_shown r p) (experiment board.now disk table) answer.old.bytes answer.new.bytes }
+    ensures { (p : Platform) (disk : DiskView) (table : Table) (spans : List Span) → IsAt p (experiment board.now disk table spans)
+        → StepDone number (register_shown r p) (experiment board.now disk table spans) answer.old.bytes answer.new.bytes }
 {
     match board.read_register(r) {
         Ok(value) => {
@@ -113,8 +151,8 @@ fn bind(vars: &mut Vars, number: u32, name: &[u8], value: Bytes, answer: &mut By
     requires line { 64 ≤ answer.old.spare }
     requires named { IsShortName name.now }
     requires free { 1 ≤ vars.old.spare }
-    ensures { (p : Platform) (disk : DiskView) (board : BoardParts) → IsAt p (experiment board disk vars.old.table)
-        → StepDone number (done (Bind name.now value.bytes) p) (experiment board disk vars.new.table) answer.old.bytes answer.new.bytes }
+    ensures { (p : Platform) (disk : DiskView) (board : BoardParts) (spans : List Span) → IsAt p (experiment board disk vars.old.table spans)
+        → StepDone number (done (Bind name.now value.bytes) p) (experiment board disk vars.new.table spans) answer.old.bytes answer.new.bytes }
 {
     vars.put(name, value);
     put_done(answer, number);
@@ -124,8 +162,8 @@ fn bind_image(vars: &mut Vars, number: u32, name: &[u8], image: Bytes, answer: &
     requires line { 64 ≤ answer.old.spare }
     requires named { IsShortName name.now }
     requires free { 1 ≤ vars.old.spare }
-    ensures { (p : Platform) (disk : DiskView) (board : BoardParts) → IsAt p (experiment board disk vars.old.table)
-        → StepDone number (done (BindImage name.now image.bytes) p) (experiment board disk vars.new.table) answer.old.bytes answer.new.bytes }
+    ensures { (p : Platform) (disk : DiskView) (board : BoardParts) (spans : List Span) → IsAt p (experiment board disk vars.old.table spans)
+        → StepDone number (done (BindImage name.now image.bytes) p) (experiment board disk vars.new.table spans) answer.old.bytes answer.new.bytes }
 {
     let length = image.as_slice().len();
     vars.put(name, image);

@@ -4,13 +4,16 @@
 mod answers;
 mod board;
 mod events;
+mod memory;
 mod run;
 mod runner;
+mod spans;
 mod tasks;
 #[cfg(test)]
 mod tests;
 
 pub use answers::{Refusal, fault_number};
-pub use board::{Board, SimDisk, Spans};
+pub use board::{Board, SimDisk};
 pub use run::{RunEnd, run_script};
 pub use runner::{Runner, StepEnd};
+pub use spans::Spans;

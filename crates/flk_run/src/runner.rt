@@ -1,7 +1,9 @@
 // Runs events.
-use crate::board::{Board, SimDisk, Spans};
+use crate::board::{Board, SimDisk};
 use crate::events::do_event;
+use crate::spans::Spans;
 use flk_base::Bytes;
+use region_pool::Ticket;
 use script_text::{Event, Vars};
 use std::alloc::Global;
 use std::marker::Model;
@@ -15,43 +17,49 @@ pub enum StepEnd {
     NoMemory,
 }
 
-/// Runs events on a board and a disk, and keeps the variables of the script. It must be spent, by `finish`.
+/// Runs events on a board and a disk, and keeps the variables of the script and the tickets of its spans. It
+/// must be spent, by `finish`.
 pub struct Runner {
     board: Board,
     disk: SimDisk,
     vars: Vars,
+    tickets: Vec<Ticket>,
     alloc: Global,
 }
 
 impl Model for Runner {
     ghost use Rattle.std.specs.Coded.{codes};
-    ghost use Rattle.flk_run.specs.Parts.{Experiment, table_code};
+    ghost use Rattle.flk_run.specs.Parts.{Experiment, HoldsSpans, table_code};
 
     ghost Value = { Experiment };
 
     ghost coded = { Prim.hlevel (codes, table_code) };
 
-    ghost view = { λ r. record { machine = record { board = r.board; disk = r.disk }; variables = r.vars.table } };
+    ghost view = { λ r. record { machine = record { board = r.board; disk = r.disk }; variables = r.vars.table; spans = r.tickets.items } };
+
+    ghost invariant = { λ r. HoldsSpans r.board.memory.marks r.tickets.items };
 }
 
 impl Runner {
-    ghost use Rattle.std.specs.Prelude.{◌≡◌, ◌++◌};
+    ghost use Rattle.std.specs.Prelude.{◌≡◌, [], ◌++◌};
     ghost use Rattle.std.specs.FinMap.{empty};
     ghost use Rattle.script_text.specs.Seen.{request_of, HasShortName};
     ghost use Rattle.flk_run.specs.Platform.{Platform};
     ghost use Rattle.flk_run.specs.Events.{after, transcript_line};
-    ghost use Rattle.flk_run.specs.Parts.{IsAt};
+    ghost use Rattle.flk_run.specs.Parts.{IsAt, HoldsSpans};
 
-    /// A runner over this board and disk, with no name bound.
+    /// A runner over this board and disk, with no name bound and no span taken.
     pub fn new(alloc: Global, board: Board, disk: SimDisk) -> Runner
         ensures board { result.machine.board ≡ board }
         ensures disk { result.machine.disk ≡ disk }
         ensures variables { result.variables ≡ empty }
+        ensures spans { result.spans ≡ [] }
     {
         Runner {
             board,
             disk,
             vars: Vars::new(alloc),
+            tickets: Vec::new(alloc),
             alloc,
         }
     }
@@ -74,13 +82,23 @@ impl Runner {
             mut board,
             disk,
             mut vars,
+            mut tickets,
             alloc,
         } = self;
-        let end = do_event(alloc, &mut board, &mut vars, number, event, answer);
+        let end = do_event(
+            alloc,
+            &mut board,
+            &mut vars,
+            &mut tickets,
+            number,
+            event,
+            answer,
+        );
         let runner = Runner {
             board,
             disk,
             vars,
+            tickets,
             alloc,
         };
         (runner, end)
@@ -90,13 +108,16 @@ impl Runner {
     pub fn finish(self) -> (Board, SimDisk, Spans)
         ensures board { result.0 ≡ self.machine.board }
         ensures disk { result.1 ≡ self.machine.disk }
+        ensures spans { result.2 ≡ self.spans }
+        ensures held { HoldsSpans result.0.memory.marks result.2 }
     {
         let Runner {
             board,
             disk,
             vars: _,
+            tickets,
             alloc: _,
         } = self;
-        (board, disk, Spans {})
+        (board, disk, Spans { tickets })
     }
 }

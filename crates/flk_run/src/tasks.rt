@@ -1,10 +1,10 @@
 // What an event comes to once its expressions have their values.
-ghost use Rattle.std.specs.Prelude.{◌≡◌, ◌≢◌, IfOk};
+ghost use Rattle.std.specs.Prelude.{◌≡◌, ◌≢◌, length, replicate, IfOk};
 ghost use Rattle.script_text.specs.Seen.{request_of, HasShortName};
 ghost use Rattle.slb_image.specs.Faults.{build_fault};
 ghost use Rattle.slb_image.specs.Image.{pack};
-ghost use Rattle.flk_run.specs.Tasks.{Refuse, Extend, Bind, Show, evaluated, imaged, task_of};
-ghost use Rattle.flk_run.specs.Seen.{seen, room, binds, IsNamed, IsShown};
+ghost use Rattle.flk_run.specs.Tasks.{Refuse, Extend, Bind, Show, Poke, Dma, evaluated, imaged, peeked, task_of};
+ghost use Rattle.flk_run.specs.Seen.{seen, room, binds, takes, IsNamed, IsShown};
 
 use crate::answers::Refusal;
 use flk_base::{Bytes, NoMemory};
@@ -17,6 +17,9 @@ const LINE_ROOM: usize = 64;
 
 /// The room that it has with the value of a register.
 const REGISTER_ROOM: usize = LINE_ROOM + 40;
+
+/// The most bytes that a value may have.
+const LONGEST_VALUE: usize = 65_536;
 
 /// What an event comes to: what there is to do, with the values of its expressions.
 #[derive(Drop)]
@@ -35,6 +38,16 @@ pub(crate) enum Task<'e> {
     Show { value: Bytes },
     /// To bind a name to an image, and to answer how long it is.
     BindImage { name: &'e [u8], image: Bytes },
+    /// To take a span of so many frames.
+    Take { frames: u32 },
+    /// To give back the span that starts at an address.
+    Give { at: u32 },
+    /// To write bytes of one span for the host.
+    Poke { at: u32, bytes: Bytes },
+    /// To show bytes of one span, for which these have the room.
+    Peek { at: u32, bytes: Vec<u8> },
+    /// To write bytes for a device.
+    Dma { at: u32, bytes: Bytes },
 }
 
 // The answer that an expression has no value; want of memory is none.
@@ -122,6 +135,38 @@ fn image_task<'e>(
     }
 }
 
+fn poke_task(alloc: Global, at: u32, bytes: &Expr, vars: &Vars) -> Result<Task<'static>, NoMemory>
+    ensures { IfOk result (λ task. seen task ≡ evaluated bytes.now vars.now.table (λ value. Poke at value)) }
+{
+    match bytes.value(alloc, vars) {
+        Ok(bytes) => return Ok(Task::Poke { at, bytes }),
+        Err(fault) => return refused(fault),
+    }
+}
+
+fn peek_task(alloc: Global, at: u32, count: u32) -> Result<Task<'static>, NoMemory>
+    ensures task { IfOk result (λ task. seen task ≡ peeked at count) }
+    ensures shown { IfOk result (λ task. IsShown (seen task)) }
+{
+    let count = count as usize;
+    if count > LONGEST_VALUE {
+        return Ok(Task::Refuse(Refusal::NoLong));
+    }
+    match vec![in alloc; 0; count] {
+        Ok(bytes) => return Ok(Task::Peek { at, bytes }),
+        Err(_) => return Err(NoMemory),
+    }
+}
+
+fn dma_task(alloc: Global, at: u32, bytes: &Expr, vars: &Vars) -> Result<Task<'static>, NoMemory>
+    ensures { IfOk result (λ task. seen task ≡ evaluated bytes.now vars.now.table (λ value. Dma at value)) }
+{
+    match bytes.value(alloc, vars) {
+        Ok(bytes) => return Ok(Task::Dma { at, bytes }),
+        Err(fault) => return refused(fault),
+    }
+}
+
 /// What an event comes to: its expressions have their values, with these variables. It takes the memory that
 /// these want.
 pub(crate) fn task_of<'e>(
@@ -154,6 +199,11 @@ pub(crate) fn task_of<'e>(
             };
             return image_task(alloc, var.as_slice(), front, code, vars);
         }
+        Event::Take { n } => return Ok(Task::Take { frames: *n }),
+        Event::Give { at } => return Ok(Task::Give { at: *at }),
+        Event::Poke { at, bytes } => return poke_task(alloc, *at, bytes, vars),
+        Event::Peek { at, len } => return peek_task(alloc, *at, *len),
+        Event::Dma { at, bytes } => return dma_task(alloc, *at, bytes, vars),
     }
 }
 
@@ -165,6 +215,7 @@ impl Task<'_> {
     {
         match self {
             Task::Show { value } => LINE_ROOM + 2 * value.as_slice().len(),
+            Task::Peek { at: _, bytes } => LINE_ROOM + 2 * bytes.len(),
             _ => REGISTER_ROOM,
         }
     }
@@ -174,5 +225,12 @@ impl Task<'_> {
         ensures { result ≡ binds (seen self.now) }
     {
         matches!(self, Task::Bind { .. } | Task::BindImage { .. })
+    }
+
+    /// Whether it takes a span.
+    pub(crate) fn takes(&self) -> bool
+        ensures { result ≡ takes (seen self.now) }
+    {
+        matches!(self, Task::Take { .. })
     }
 }

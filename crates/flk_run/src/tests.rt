@@ -61,7 +61,12 @@ fn one_event_after_another(rt: HostRuntime) -> Result<(), Fail> {
         ("image m pal 32 0 x:90", "7 no image 7\n"),
         ("show m[0..4]", "7 ok x:20002600\n"),
     ];
-    let mut runner = runner(&rt)?;
+    answers(&rt, &rows)
+}
+
+// Each line, in turn, has this answer.
+fn answers(rt: &HostRuntime, rows: &[(&str, &str)]) -> Result<(), Fail> {
+    let mut runner = runner(rt)?;
     for (line, wanted) in rows {
         let Ok(event) = read_line(rt.alloc(), line.as_bytes()) else {
             spend(runner);
@@ -77,6 +82,49 @@ fn one_event_after_another(rt: HostRuntime) -> Result<(), Fail> {
     }
     spend(runner);
     Ok(())
+}
+
+#[test]
+fn memory(rt: HostRuntime) -> Result<(), Fail> {
+    let rows: [(&str, &str); 36] = [
+        ("dma 0 x:01", "7 no blocked\n"),
+        ("take 0", "7 no room\n"),
+        ("take 1025", "7 no room\n"),
+        ("take 2", "7 ok 0\n"),
+        ("poke 0 x:aa", "7 ok\n"),
+        ("peek 0 1", "7 ok x:aa\n"),
+        ("poke 8191 x:bb", "7 ok\n"),
+        ("peek 8191 1", "7 ok x:bb\n"),
+        ("peek 8192 1", "7 no taken\n"),
+        ("peek 8192 0", "7 ok x:\n"),
+        ("peek 8193 0", "7 no taken\n"),
+        ("poke 8191 x:0102", "7 no taken\n"),
+        ("give 4096", "7 no span\n"),
+        ("give 1", "7 no span\n"),
+        ("take 1024", "7 no room\n"),
+        ("give 0", "7 ok\n"),
+        ("give 0", "7 no span\n"),
+        ("peek 0 1", "7 no taken\n"),
+        ("take 1", "7 ok 0\n"),
+        ("peek 0 1", "7 ok x:00\n"),
+        ("take 1", "7 ok 4096\n"),
+        ("poke 4095 x:0102", "7 no taken\n"),
+        ("dma 4095 x:0304", "7 ok\n"),
+        ("peek 4095 1", "7 ok x:03\n"),
+        ("peek 4096 1", "7 ok x:04\n"),
+        ("dma 8191 x:0506", "7 no blocked\n"),
+        ("peek 8191 1", "7 ok x:00\n"),
+        ("dma 4294967295 x:", "7 ok\n"),
+        ("poke 8192 zz", "7 no name\n"),
+        ("peek 0 65537", "7 no long\n"),
+        ("peek 0 65536", "7 no taken\n"),
+        ("give 0", "7 ok\n"),
+        ("give 4096", "7 ok\n"),
+        ("take 1024", "7 ok 0\n"),
+        ("peek 4194303 1", "7 ok x:00\n"),
+        ("peek 0 65537", "7 no long\n"),
+    ];
+    answers(&rt, &rows)
 }
 
 // How a run of the script ended, and what it wrote.

@@ -10,8 +10,8 @@ use Rattle.script_text.specs.Lines.{longest_line, words, content}
 use Rattle.script_text.specs.Numbers.{number_of}
 use Rattle.script_text.specs.Expressions.{Term, is_name, is_small_letter, is_name_byte, SpellsExpression}
 use Rattle.script_text.specs.ExpressionReading.{expression_of}
-use Rattle.script_text.specs.Grammar.{Request, Nothing, ExtendBy, ReadOf, LetBe, ShowOf, ImageOf, ANumber, AName, AKind, AnExpression, kind_word, Spells, is_printable, is_remark, command_word, arguments, SpellAll, SpellsCommand, SpellsWords, SpellsLine}
-use Rattle.script_text.specs.Reading.{◌>>=◌, or_fault, number_in, name_in, kind_in, expression_in, one_of, two_of, five_of, extend_in, read_in, let_in, show_in, image_in, command_in, words_in, reading, Gives}
+use Rattle.script_text.specs.Grammar.{Request, Nothing, ExtendBy, ReadOf, LetBe, ShowOf, ImageOf, TakeOf, GiveAt, PokeAt, PeekAt, DmaAt, ANumber, AName, AKind, AnExpression, kind_word, Spells, is_printable, is_remark, command_word, arguments, SpellAll, SpellsCommand, SpellsWords, SpellsLine}
+use Rattle.script_text.specs.Reading.{◌>>=◌, or_fault, number_in, name_in, kind_in, expression_in, one_of, two_of, five_of, extend_in, read_in, let_in, show_in, image_in, take_in, give_in, poke_in, peek_in, dma_in, memory_command_in, command_in, words_in, reading, Gives}
 use Rattle.script_text.specs.Seen.{IsShortName, HasShortName}
 use Rattle.script_text.specs.declared.line.LineFault.{LineFault}
 use Rattle.script_text.specs.declared.line.LineFault.TheVariants.{Number, Expression, Name, NoMemory}
@@ -130,8 +130,69 @@ image_found ws request h =
     rw (five_found ws w.0 w.1) (name_found w.0.0 n.0 n.1, (kind_found w.0.1 k.0 k.1, (number_found w.0.2 a.0 a.1, (number_found w.0.3 b.0 b.1, (expression_found w.0.4 c.0 c.1, tt))))) in
     subst (λ q. Reads (codes "image") ws q) e (record { some = λ vs s. s; command = refl; rest = spelled })
 
+take_found : (ws : List (List ℕ)) (request : Request) → take_in ws ≡ Ok request → Reads (codes "take") ws request
+take_found ws request h =
+    let w = bind_ok (one_of ws) _ request h in
+    let n = bind_ok (number_in w.0) _ request w.2 in
+    let e : TakeOf n.0 ≡ request = cc in
+    let spelled : SpellAll (arguments (TakeOf n.0)) ws = rw (one_found ws w.0 w.1) (number_found w.0 n.0 n.1, tt) in
+    subst (λ q. Reads (codes "take") ws q) e (record { some = λ vs s. s; command = refl; rest = spelled })
+
+give_found : (ws : List (List ℕ)) (request : Request) → give_in ws ≡ Ok request → Reads (codes "give") ws request
+give_found ws request h =
+    let w = bind_ok (one_of ws) _ request h in
+    let n = bind_ok (number_in w.0) _ request w.2 in
+    let e : GiveAt n.0 ≡ request = cc in
+    let spelled : SpellAll (arguments (GiveAt n.0)) ws = rw (one_found ws w.0 w.1) (number_found w.0 n.0 n.1, tt) in
+    subst (λ q. Reads (codes "give") ws q) e (record { some = λ vs s. s; command = refl; rest = spelled })
+
+poke_found : (ws : List (List ℕ)) (request : Request) → poke_in ws ≡ Ok request → Reads (codes "poke") ws request
+poke_found ws request h =
+    let w = bind_ok (two_of ws) _ request h in
+    let a = bind_ok (number_in w.0.0) _ request w.2 in
+    let t = bind_ok (expression_in w.0.1) _ request a.2 in
+    let e : PokeAt a.0 t.0 ≡ request = cc in
+    let spelled : SpellAll (arguments (PokeAt a.0 t.0)) ws = rw (two_found ws w.0 w.1) (number_found w.0.0 a.0 a.1, (expression_found w.0.1 t.0 t.1, tt)) in
+    subst (λ q. Reads (codes "poke") ws q) e (record { some = λ vs s. s; command = refl; rest = spelled })
+
+peek_found : (ws : List (List ℕ)) (request : Request) → peek_in ws ≡ Ok request → Reads (codes "peek") ws request
+peek_found ws request h =
+    let w = bind_ok (two_of ws) _ request h in
+    let a = bind_ok (number_in w.0.0) _ request w.2 in
+    let n = bind_ok (number_in w.0.1) _ request a.2 in
+    let e : PeekAt a.0 n.0 ≡ request = cc in
+    let spelled : SpellAll (arguments (PeekAt a.0 n.0)) ws = rw (two_found ws w.0 w.1) (number_found w.0.0 a.0 a.1, (number_found w.0.1 n.0 n.1, tt)) in
+    subst (λ q. Reads (codes "peek") ws q) e (record { some = λ vs s. s; command = refl; rest = spelled })
+
+dma_found : (ws : List (List ℕ)) (request : Request) → dma_in ws ≡ Ok request → Reads (codes "dma") ws request
+dma_found ws request h =
+    let w = bind_ok (two_of ws) _ request h in
+    let a = bind_ok (number_in w.0.0) _ request w.2 in
+    let t = bind_ok (expression_in w.0.1) _ request a.2 in
+    let e : DmaAt a.0 t.0 ≡ request = cc in
+    let spelled : SpellAll (arguments (DmaAt a.0 t.0)) ws = rw (two_found ws w.0 w.1) (number_found w.0.0 a.0 a.1, (expression_found w.0.1 t.0 t.1, tt)) in
+    subst (λ q. Reads (codes "dma") ws q) e (record { some = λ vs s. s; command = refl; rest = spelled })
+
 reads_words : (word name : List ℕ) (others : List (List ℕ)) (request : Request) → bytes_eq word name ≡ true → Reads name others request → SpellsWords request (word ∷ others)
 reads_words word name others request same r = r.some (word ∷ others) (same_text word name (sym same) ∙ sym r.command, r.rest)
+
+memory_command_found : (word : List ℕ) (others : List (List ℕ)) (request : Request) → memory_command_in word others ≡ Ok request → SpellsWords request (word ∷ others)
+memory_command_found word others request h = elim (chosen (bytes_eq word (codes "take")) _ _ _ h) [
+  | inl took ↦ reads_words word (codes "take") others request took.0 (take_found others request took.1)
+  | inr a ↦ elim (chosen (bytes_eq word (codes "give")) _ _ _ a.1) [
+    | inl took ↦ reads_words word (codes "give") others request took.0 (give_found others request took.1)
+    | inr b ↦ elim (chosen (bytes_eq word (codes "poke")) _ _ _ b.1) [
+      | inl took ↦ reads_words word (codes "poke") others request took.0 (poke_found others request took.1)
+      | inr c ↦ elim (chosen (bytes_eq word (codes "peek")) _ _ _ c.1) [
+        | inl took ↦ reads_words word (codes "peek") others request took.0 (peek_found others request took.1)
+        | inr d ↦ elim (chosen (bytes_eq word (codes "dma")) _ _ _ d.1) [
+          | inl took ↦ reads_words word (codes "dma") others request took.0 (dma_found others request took.1)
+          | inr none ↦ cc
+        ]
+      ]
+    ]
+  ]
+]
 
 command_found : (word : List ℕ) (others : List (List ℕ)) (request : Request) → command_in word others ≡ Ok request → SpellsWords request (word ∷ others)
 command_found word others request h = elim (chosen (bytes_eq word (codes "extend")) _ _ _ h) [
@@ -144,7 +205,7 @@ command_found word others request h = elim (chosen (bytes_eq word (codes "extend
         | inl took ↦ reads_words word (codes "show") others request took.0 (show_found others request took.1)
         | inr d ↦ elim (chosen (bytes_eq word (codes "image")) _ _ _ d.1) [
           | inl took ↦ reads_words word (codes "image") others request took.0 (image_found others request took.1)
-          | inr none ↦ cc
+          | inr none ↦ memory_command_found word others request none.1
         ]
       ]
     ]
@@ -223,6 +284,34 @@ image_again name job entry budget code (a ∷ b ∷ c ∷ d ∷ e ∷ f ∷ ws) 
 image_again name job entry budget code (a ∷ b ∷ c ∷ d ∷ e ∷ []) s =
     rw (name_again a name s.0, kind_again b job s.1.0, number_again c entry s.1.1.0, number_again d budget s.1.1.1.0, expression_again e code s.1.1.1.1.0) refl
 
+take_again : (frames : ℕ) (ws : List (List ℕ)) → SpellAll (arguments (TakeOf frames)) ws → take_in ws ≡ Ok (TakeOf frames)
+take_again frames [] s = absurd s
+take_again frames (a ∷ b ∷ ws) s = absurd s.1
+take_again frames (a ∷ []) s = rw (number_again a frames s.0) refl
+
+give_again : (at : ℕ) (ws : List (List ℕ)) → SpellAll (arguments (GiveAt at)) ws → give_in ws ≡ Ok (GiveAt at)
+give_again at [] s = absurd s
+give_again at (a ∷ b ∷ ws) s = absurd s.1
+give_again at (a ∷ []) s = rw (number_again a at s.0) refl
+
+poke_again : (at : ℕ) (bytes : List Term) (ws : List (List ℕ)) → SpellAll (arguments (PokeAt at bytes)) ws → poke_in ws ≡ Ok (PokeAt at bytes)
+poke_again at bytes [] s = absurd s
+poke_again at bytes (a ∷ []) s = absurd s.1
+poke_again at bytes (a ∷ b ∷ c ∷ ws) s = absurd s.1.1
+poke_again at bytes (a ∷ b ∷ []) s = rw (number_again a at s.0, expression_again b bytes s.1.0) refl
+
+peek_again : (at : ℕ) (count : ℕ) (ws : List (List ℕ)) → SpellAll (arguments (PeekAt at count)) ws → peek_in ws ≡ Ok (PeekAt at count)
+peek_again at count [] s = absurd s
+peek_again at count (a ∷ []) s = absurd s.1
+peek_again at count (a ∷ b ∷ c ∷ ws) s = absurd s.1.1
+peek_again at count (a ∷ b ∷ []) s = rw (number_again a at s.0, number_again b count s.1.0) refl
+
+dma_again : (at : ℕ) (bytes : List Term) (ws : List (List ℕ)) → SpellAll (arguments (DmaAt at bytes)) ws → dma_in ws ≡ Ok (DmaAt at bytes)
+dma_again at bytes [] s = absurd s
+dma_again at bytes (a ∷ []) s = absurd s.1
+dma_again at bytes (a ∷ b ∷ c ∷ ws) s = absurd s.1.1
+dma_again at bytes (a ∷ b ∷ []) s = rw (number_again a at s.0, expression_again b bytes s.1.0) refl
+
 words_again : (request : Request) (ws : List (List ℕ)) → SpellsWords request ws → words_in ws ≡ Ok request
 words_again Nothing [] h = refl
 words_again Nothing (word ∷ others) h = rw h refl
@@ -236,6 +325,16 @@ words_again (ShowOf value) [] h = absurd h
 words_again (ShowOf value) (word ∷ others) h = rw h.0 (show_again value others h.1)
 words_again (ImageOf name job entry budget code) [] h = absurd h
 words_again (ImageOf name job entry budget code) (word ∷ others) h = rw h.0 (image_again name job entry budget code others h.1)
+words_again (TakeOf frames) [] h = absurd h
+words_again (TakeOf frames) (word ∷ others) h = rw h.0 (take_again frames others h.1)
+words_again (GiveAt at) [] h = absurd h
+words_again (GiveAt at) (word ∷ others) h = rw h.0 (give_again at others h.1)
+words_again (PokeAt at bytes) [] h = absurd h
+words_again (PokeAt at bytes) (word ∷ others) h = rw h.0 (poke_again at bytes others h.1)
+words_again (PeekAt at count) [] h = absurd h
+words_again (PeekAt at count) (word ∷ others) h = rw h.0 (peek_again at count others h.1)
+words_again (DmaAt at bytes) [] h = absurd h
+words_again (DmaAt at bytes) (word ∷ others) h = rw h.0 (dma_again at bytes others h.1)
 
 pub again : (line : List ℕ) (request : Request) → SpellsLine request line → reading line ≡ Ok request
 again line request h =
@@ -261,6 +360,11 @@ arguments_short (LetBe name value) (word ∷ others) s = is_name_short name s.0.
 arguments_short (ShowOf value) others s = tt
 arguments_short (ImageOf name job entry budget code) [] s = absurd s
 arguments_short (ImageOf name job entry budget code) (word ∷ others) s = is_name_short name s.0.1
+arguments_short (TakeOf frames) others s = tt
+arguments_short (GiveAt at) others s = tt
+arguments_short (PokeAt at bytes) others s = tt
+arguments_short (PeekAt at count) others s = tt
+arguments_short (DmaAt at bytes) others s = tt
 
 command_short : (request : Request) (ws : List (List ℕ)) → SpellsCommand request ws → HasShortName request
 command_short request [] s = absurd s
@@ -274,6 +378,11 @@ words_short (ReadOf r) ws s = tt
 words_short (LetBe name value) ws s = command_short (LetBe name value) ws s
 words_short (ShowOf value) ws s = tt
 words_short (ImageOf name job entry budget code) ws s = command_short (ImageOf name job entry budget code) ws s
+words_short (TakeOf frames) ws s = tt
+words_short (GiveAt at) ws s = tt
+words_short (PokeAt at bytes) ws s = tt
+words_short (PeekAt at count) ws s = tt
+words_short (DmaAt at bytes) ws s = tt
 
 pub short_if : {X : Type 0} (view : X → Request) (r : Result X LineFault) (line : List ℕ) → Gives view r (reading line) → IfOk r (λ x. HasShortName (view x))
 short_if view (Ok x) line h = words_short (view x) (words (content line)) (found line (view x) h).spelled
@@ -346,6 +455,39 @@ image_memory ws =
     bind_memory (five_of ws) _ (five_memory ws) (λ w. bind_memory (name_in w.0) _ (name_memory w.0) (λ n. bind_memory (kind_in w.1) _ (kind_memory w.1)
     (λ k. bind_memory (number_in w.2) _ (number_memory w.2) (λ a. bind_memory (number_in w.3) _ (number_memory w.3) (λ b. bind_memory (expression_in w.4) _ (expression_memory w.4) (λ c h. cc))))))
 
+take_memory : (ws : List (List ℕ)) → take_in ws ≡ Err NoMemory → ⊥
+take_memory ws = bind_memory (one_of ws) _ (one_memory ws) (λ w. bind_memory (number_in w) _ (number_memory w) (λ n h. cc))
+
+give_memory : (ws : List (List ℕ)) → give_in ws ≡ Err NoMemory → ⊥
+give_memory ws = bind_memory (one_of ws) _ (one_memory ws) (λ w. bind_memory (number_in w) _ (number_memory w) (λ n h. cc))
+
+poke_memory : (ws : List (List ℕ)) → poke_in ws ≡ Err NoMemory → ⊥
+poke_memory ws = bind_memory (two_of ws) _ (two_memory ws) (λ w. bind_memory (number_in w.0) _ (number_memory w.0) (λ a. bind_memory (expression_in w.1) _ (expression_memory w.1) (λ t h. cc)))
+
+peek_memory : (ws : List (List ℕ)) → peek_in ws ≡ Err NoMemory → ⊥
+peek_memory ws = bind_memory (two_of ws) _ (two_memory ws) (λ w. bind_memory (number_in w.0) _ (number_memory w.0) (λ a. bind_memory (number_in w.1) _ (number_memory w.1) (λ t h. cc)))
+
+dma_memory : (ws : List (List ℕ)) → dma_in ws ≡ Err NoMemory → ⊥
+dma_memory ws = bind_memory (two_of ws) _ (two_memory ws) (λ w. bind_memory (number_in w.0) _ (number_memory w.0) (λ a. bind_memory (expression_in w.1) _ (expression_memory w.1) (λ t h. cc)))
+
+memory_command_memory : (word : List ℕ) (others : List (List ℕ)) → memory_command_in word others ≡ Err NoMemory → ⊥
+memory_command_memory word others h = elim (chosen (bytes_eq word (codes "take")) _ _ _ h) [
+  | inl took ↦ take_memory others took.1
+  | inr a ↦ elim (chosen (bytes_eq word (codes "give")) _ _ _ a.1) [
+    | inl took ↦ give_memory others took.1
+    | inr b ↦ elim (chosen (bytes_eq word (codes "poke")) _ _ _ b.1) [
+      | inl took ↦ poke_memory others took.1
+      | inr c ↦ elim (chosen (bytes_eq word (codes "peek")) _ _ _ c.1) [
+        | inl took ↦ peek_memory others took.1
+        | inr d ↦ elim (chosen (bytes_eq word (codes "dma")) _ _ _ d.1) [
+          | inl took ↦ dma_memory others took.1
+          | inr none ↦ cc
+        ]
+      ]
+    ]
+  ]
+]
+
 command_memory : (word : List ℕ) (others : List (List ℕ)) → command_in word others ≡ Err NoMemory → ⊥
 command_memory word others h = elim (chosen (bytes_eq word (codes "extend")) _ _ _ h) [
   | inl took ↦ extend_memory others took.1
@@ -355,7 +497,10 @@ command_memory word others h = elim (chosen (bytes_eq word (codes "extend")) _ _
       | inl took ↦ let_memory others took.1
       | inr c ↦ elim (chosen (bytes_eq word (codes "show")) _ _ _ c.1) [
         | inl took ↦ show_memory others took.1
-        | inr d ↦ elim (chosen (bytes_eq word (codes "image")) _ _ _ d.1) [ inl took ↦ image_memory others took.1 | inr none ↦ cc ]
+        | inr d ↦ elim (chosen (bytes_eq word (codes "image")) _ _ _ d.1) [
+          | inl took ↦ image_memory others took.1
+          | inr none ↦ memory_command_memory word others none.1
+        ]
       ]
     ]
   ]

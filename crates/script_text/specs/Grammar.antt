@@ -6,7 +6,8 @@ use Rattle.script_text.specs.Numbers.{number_of}
 use Rattle.script_text.specs.Expressions.{Term, is_name, SpellsExpression}
 
 -- what a line asks for: nothing, to extend a register by a text, to read a register, to bind a name to a value, to
--- show a value, or to bind a name to the image of some code
+-- show a value, or to bind a name to the image of some code; and of memory to take so many frames, to give back the
+-- span at an address, and from an address on to write bytes, to show so many, or to have a device write some
 pub data Request : Type 0 where
   Nothing : Request
   ExtendBy : (r : ℕ) → (text : List Term) → Request
@@ -14,6 +15,11 @@ pub data Request : Type 0 where
   LetBe : (name : List ℕ) → (value : List Term) → Request
   ShowOf : (value : List Term) → Request
   ImageOf : (name : List ℕ) → (job : Bool) → (entry : ℕ) → (budget : ℕ) → (code : List Term) → Request
+  TakeOf : (frames : ℕ) → Request
+  GiveAt : (at : ℕ) → Request
+  PokeAt : (at : ℕ) → (bytes : List Term) → Request
+  PeekAt : (at : ℕ) → (count : ℕ) → Request
+  DmaAt : (at : ℕ) → (bytes : List Term) → Request
 
 -- ---- words
 
@@ -62,6 +68,11 @@ command_word (ReadOf r) = codes "read"
 command_word (LetBe name value) = codes "let"
 command_word (ShowOf value) = codes "show"
 command_word (ImageOf name job entry budget code) = codes "image"
+command_word (TakeOf frames) = codes "take"
+command_word (GiveAt at) = codes "give"
+command_word (PokeAt at bytes) = codes "poke"
+command_word (PeekAt at count) = codes "peek"
+command_word (DmaAt at bytes) = codes "dma"
 
 abbrev pub arguments : Request → List Value
 arguments Nothing = []
@@ -70,6 +81,11 @@ arguments (ReadOf r) = ANumber r ∷ []
 arguments (LetBe name value) = AName name ∷ AnExpression value ∷ []
 arguments (ShowOf value) = AnExpression value ∷ []
 arguments (ImageOf name job entry budget code) = AName name ∷ AKind job ∷ ANumber entry ∷ ANumber budget ∷ AnExpression code ∷ []
+arguments (TakeOf frames) = ANumber frames ∷ []
+arguments (GiveAt at) = ANumber at ∷ []
+arguments (PokeAt at bytes) = ANumber at ∷ AnExpression bytes ∷ []
+arguments (PeekAt at count) = ANumber at ∷ ANumber count ∷ []
+arguments (DmaAt at bytes) = ANumber at ∷ AnExpression bytes ∷ []
 
 -- the first word is the command's, and the others spell its arguments
 abbrev pub SpellsCommand : Request → List (List ℕ) → Type 0

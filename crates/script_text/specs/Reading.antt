@@ -6,7 +6,7 @@ use Rattle.script_text.specs.Lines.{longest_line, most_lines, words, content}
 use Rattle.script_text.specs.Numbers.{number_of}
 use Rattle.script_text.specs.Expressions.{Term, is_name}
 use Rattle.script_text.specs.ExpressionReading.{expression_of}
-use Rattle.script_text.specs.Grammar.{Request, Nothing, ExtendBy, ReadOf, LetBe, ShowOf, ImageOf, is_printable, is_remark}
+use Rattle.script_text.specs.Grammar.{Request, Nothing, ExtendBy, ReadOf, LetBe, ShowOf, ImageOf, TakeOf, GiveAt, PokeAt, PeekAt, DmaAt, is_printable, is_remark}
 use Rattle.script_text.specs.declared.line.BadLine.{BadLine}
 use Rattle.script_text.specs.declared.line.BadLine.TheVariants.{Faulty, TooMany}
 use Rattle.script_text.specs.declared.line.LineFault.{LineFault}
@@ -74,6 +74,31 @@ image_in others =
     five_of others >>= λ w. name_in w.0 >>= λ name. kind_in w.1 >>= λ job. number_in w.2 >>= λ entry.
     number_in w.3 >>= λ budget. expression_in w.4 >>= λ code. Ok (ImageOf name job entry budget code)
 
+abbrev pub take_in : List (List ℕ) → Result Request LineFault
+take_in others = one_of others >>= λ w. number_in w >>= λ frames. Ok (TakeOf frames)
+
+abbrev pub give_in : List (List ℕ) → Result Request LineFault
+give_in others = one_of others >>= λ w. number_in w >>= λ at. Ok (GiveAt at)
+
+abbrev pub poke_in : List (List ℕ) → Result Request LineFault
+poke_in others = two_of others >>= λ w. number_in w.0 >>= λ at. expression_in w.1 >>= λ bytes. Ok (PokeAt at bytes)
+
+abbrev pub peek_in : List (List ℕ) → Result Request LineFault
+peek_in others = two_of others >>= λ w. number_in w.0 >>= λ at. number_in w.1 >>= λ count. Ok (PeekAt at count)
+
+abbrev pub dma_in : List (List ℕ) → Result Request LineFault
+dma_in others = two_of others >>= λ w. number_in w.0 >>= λ at. expression_in w.1 >>= λ bytes. Ok (DmaAt at bytes)
+
+-- a command on memory, then what stands behind it
+abbrev pub memory_command_in : List ℕ → List (List ℕ) → Result Request LineFault
+memory_command_in word others =
+    if bytes_eq word (codes "take") then take_in others
+    else if bytes_eq word (codes "give") then give_in others
+    else if bytes_eq word (codes "poke") then poke_in others
+    else if bytes_eq word (codes "peek") then peek_in others
+    else if bytes_eq word (codes "dma") then dma_in others
+    else Err Command
+
 -- the command, then what stands behind it
 abbrev pub command_in : List ℕ → List (List ℕ) → Result Request LineFault
 command_in word others =
@@ -82,7 +107,7 @@ command_in word others =
     else if bytes_eq word (codes "let") then let_in others
     else if bytes_eq word (codes "show") then show_in others
     else if bytes_eq word (codes "image") then image_in others
-    else Err Command
+    else memory_command_in word others
 
 -- the words of a line
 abbrev pub words_in : List (List ℕ) → Result Request LineFault

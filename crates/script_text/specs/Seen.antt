@@ -1,8 +1,8 @@
 -- What contracts see of an event.
 use Rattle.std.specs.Prelude.{◌≤◌, length, ℕ, List}
-use Rattle.script_text.specs.Grammar.{Request, Nothing, ExtendBy, ReadOf, LetBe, ShowOf, ImageOf}
+use Rattle.script_text.specs.Grammar.{Request, Nothing, ExtendBy, ReadOf, LetBe, ShowOf, ImageOf, TakeOf, GiveAt, PokeAt, PeekAt, DmaAt}
 use Rattle.script_text.specs.declared.line.Event.{Event}
-use Rattle.script_text.specs.declared.line.Event.TheVariants.{Blank, Extend, Read, Let, Show, Image}
+use Rattle.script_text.specs.declared.line.Event.TheVariants.{Blank, Extend, Read, Let, Show, Image, Take, Give, Poke, Peek, Dma}
 
 -- what the event asks for
 abbrev pub request_of : Event → Request
@@ -12,6 +12,11 @@ request_of (Read r) = ReadOf r
 request_of (Let var value) = LetBe var.bytes value
 request_of (Show value) = ShowOf value
 request_of (Image var job entry budget code) = ImageOf var.bytes job entry budget code
+request_of (Take n) = TakeOf n
+request_of (Give at) = GiveAt at
+request_of (Poke at bytes) = PokeAt at bytes
+request_of (Peek at len) = PeekAt at len
+request_of (Dma at bytes) = DmaAt at bytes
 
 -- 1 to 16 bytes
 pub record IsShortName (name : List ℕ) : Type 0 where

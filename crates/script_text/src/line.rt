@@ -3,7 +3,7 @@ ghost use Rattle.std.specs.Prelude.{◌≡◌, ◌≢◌, ◌↔◌, ℕ, List, 
 ghost use Rattle.std.specs.List.{list_all};
 ghost use Rattle.script_text.specs.Expressions.{is_name};
 ghost use Rattle.script_text.specs.Grammar.{Request, SpellsLine, is_printable};
-ghost use Rattle.script_text.specs.Reading.{Gives, reading, words_in, command_in, extend_in, read_in, let_in, show_in, image_in, number_in, name_in, kind_in, expression_in};
+ghost use Rattle.script_text.specs.Reading.{Gives, reading, words_in, command_in, extend_in, read_in, let_in, show_in, image_in, memory_command_in, take_in, give_in, poke_in, peek_in, dma_in, number_in, name_in, kind_in, expression_in};
 ghost use Rattle.script_text.specs.Seen.{request_of, HasShortName};
 
 use crate::expression::{self, Expr, Unread};
@@ -49,6 +49,29 @@ pub enum Event {
         /// How many turns a session of it has.
         budget: u32,
         code: Expr,
+    },
+    /// To take a span of so many frames.
+    Take {
+        n: u32,
+    },
+    /// To give back the span that starts at an address.
+    Give {
+        at: u32,
+    },
+    /// To write a value into a span, from an address on.
+    Poke {
+        at: u32,
+        bytes: Expr,
+    },
+    /// To show so many bytes of a span, from an address on.
+    Peek {
+        at: u32,
+        len: u32,
+    },
+    /// To have a device write a value, from an address on.
+    Dma {
+        at: u32,
+        bytes: Expr,
     },
 }
 
@@ -153,6 +176,24 @@ fn read_command(alloc: Global, command: &[u8], words: Words<'_>) -> Result<Event
     } else if command == b"image".as_slice() {
         read_image(alloc, words)
     } else {
+        read_memory_command(alloc, command, words)
+    }
+}
+
+fn read_memory_command(alloc: Global, command: &[u8], words: Words<'_>) -> Result<Event, LineFault>
+    ensures { Gives request_of result (memory_command_in command.now words.entry) }
+{
+    if command == b"take".as_slice() {
+        read_take(words)
+    } else if command == b"give".as_slice() {
+        read_give(words)
+    } else if command == b"poke".as_slice() {
+        read_poke(alloc, words)
+    } else if command == b"peek".as_slice() {
+        read_peek(words)
+    } else if command == b"dma".as_slice() {
+        read_dma(alloc, words)
+    } else {
         Err(LineFault::Command)
     }
 }
@@ -207,6 +248,49 @@ fn read_image(alloc: Global, words: Words<'_>) -> Result<Event, LineFault>
         budget,
         code,
     })
+}
+
+fn read_take(words: Words<'_>) -> Result<Event, LineFault>
+    ensures { Gives request_of result (take_in words.entry) }
+{
+    let number = one(words)?;
+    let n = number_in(number)?;
+    Ok(Event::Take { n })
+}
+
+fn read_give(words: Words<'_>) -> Result<Event, LineFault>
+    ensures { Gives request_of result (give_in words.entry) }
+{
+    let number = one(words)?;
+    let at = number_in(number)?;
+    Ok(Event::Give { at })
+}
+
+fn read_poke(alloc: Global, words: Words<'_>) -> Result<Event, LineFault>
+    ensures { Gives request_of result (poke_in words.entry) }
+{
+    let (number, expression) = two(words)?;
+    let at = number_in(number)?;
+    let bytes = expression_in(alloc, expression)?;
+    Ok(Event::Poke { at, bytes })
+}
+
+fn read_peek(words: Words<'_>) -> Result<Event, LineFault>
+    ensures { Gives request_of result (peek_in words.entry) }
+{
+    let (address, count) = two(words)?;
+    let at = number_in(address)?;
+    let len = number_in(count)?;
+    Ok(Event::Peek { at, len })
+}
+
+fn read_dma(alloc: Global, words: Words<'_>) -> Result<Event, LineFault>
+    ensures { Gives request_of result (dma_in words.entry) }
+{
+    let (number, expression) = two(words)?;
+    let at = number_in(number)?;
+    let bytes = expression_in(alloc, expression)?;
+    Ok(Event::Dma { at, bytes })
 }
 
 fn number_in(word: &[u8]) -> Result<u32, LineFault>

@@ -46,13 +46,32 @@ fn told(rt: &HostRuntime, line: &[u8]) -> Result<String, Fail> {
             let code = value(rt, &code)?;
             Ok(format!(in rt.alloc(); "image {name:?} {job} {entry} {budget} {code}")?)
         }
+        Ok(event) => told_of_memory(rt, event),
         Err(fault) => Ok(format!(in rt.alloc(); "{fault:?}")?),
+    }
+}
+
+// The same of an event that is about memory.
+fn told_of_memory(rt: &HostRuntime, event: Event) -> Result<String, Fail> {
+    match event {
+        Event::Take { n } => Ok(format!(in rt.alloc(); "take {n}")?),
+        Event::Give { at } => Ok(format!(in rt.alloc(); "give {at}")?),
+        Event::Poke { at, bytes } => {
+            let bytes = value(rt, &bytes)?;
+            Ok(format!(in rt.alloc(); "poke {at} {bytes}")?)
+        }
+        Event::Peek { at, len } => Ok(format!(in rt.alloc(); "peek {at} {len}")?),
+        Event::Dma { at, bytes } => {
+            let bytes = value(rt, &bytes)?;
+            Ok(format!(in rt.alloc(); "dma {at} {bytes}")?)
+        }
+        _ => Err(Fail::from("another event")),
     }
 }
 
 #[test]
 fn lines(rt: HostRuntime) -> Result<(), Fail> {
-    let rows: [(&str, &str); 45] = [
+    let rows: [(&str, &str); 56] = [
         ("", "blank"),
         (" \t ", "blank"),
         ("\r", "blank"),
@@ -98,6 +117,17 @@ fn lines(rt: HostRuntime) -> Result<(), Fail> {
         ("image M pul a 3 x:90", "Name"),
         ("image m pal a 3 y:", "Number"),
         ("image m pal 32 3", "Count"),
+        ("take 0", "take 0"),
+        ("take x:00", "Number"),
+        ("give 0x1000", "give 4096"),
+        ("give", "Count"),
+        ("poke 4096 x:0a+rep:00*1", "poke 4096 [10, 0]"),
+        ("poke x:00 4096", "Number"),
+        ("peek 4096 65537", "peek 4096 65537"),
+        ("peek 4096 x:", "Number"),
+        ("peek 4096", "Count"),
+        ("dma 1 x:01", "dma 1 [1]"),
+        ("dma 1 01", "Expression"),
     ];
     for (line, wanted) in rows {
         let got = told(&rt, line.as_bytes())?;

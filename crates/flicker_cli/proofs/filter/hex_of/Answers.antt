@@ -1,4 +1,4 @@
-use Rattle.std.proofs.Common.{◌≡◌, List, ℕ, sym, ap, ◌∙◌, subst}
+use Rattle.std.proofs.Common.{◌∙◌}
 use Rattle.flicker_cli.proofs.InputLemmas.{unspelled}
 use Rattle.flicker_cli.proofs.filter.hex_of.Goals as goal
 

@@ -1,6 +1,5 @@
-use Rattle.std.proofs.Common.{◌≡◌, ◌+◌, length, subst, sym, ap, arith}
+use Rattle.std.proofs.Common.{◌≡◌, ◌+◌, length, ap, arith}
 use Rattle.flicker_cli.specs.Filters.{most_input}
-use Rattle.flicker_cli.specs.Inputs.{TakesSome}
 use Rattle.flicker_cli.proofs.InputLemmas.{takes_none, takes_some, takes_long}
 use Rattle.flicker_cli.proofs.input.read_input.Goals as goal
 

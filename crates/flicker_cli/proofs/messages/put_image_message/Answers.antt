@@ -1,4 +1,4 @@
-use Rattle.std.proofs.Common.{◌++◌, ap, ◌∙◌}
+use Rattle.std.proofs.Common.{ap, ◌∙◌}
 use Rattle.std.specs.Prelude.{codes, decimal}
 use Rattle.flicker_cli.proofs.MessageLemmas.{put_thrice}
 use Rattle.flicker_cli.proofs.messages.put_image_message.Goals as goal
