@@ -1,5 +1,6 @@
 pub mod Buffer
 pub mod Causes
+pub mod Checks
 pub mod Fuses
 pub mod Hexadecimal
 pub mod InMemory

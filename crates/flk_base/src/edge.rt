@@ -46,10 +46,10 @@ impl<R: Read> Source for StdSource<R> {
         ensures kept { OnErr result
             (KeepsWhereTold (told_by R.remaining self.old) (told_by R.remaining self.new)) }
         ensures cause { HasCause self.old.faults self.new.faults result }
-
-        // Beside what the trait says: each error counts as one fault, and nothing else counts.
-        ensures raised { OnErr result (self.new.faults ≡ counted self.old.faults) }
         ensures stays { OnOk result (self.new.faults ≡ self.old.faults) }
+
+        // Beside what the trait says: each error counts as one fault.
+        ensures raised { OnErr result (self.new.faults ≡ counted self.old.faults) }
         // What the reader itself tells is passed on, also after a fault.
         ensures inner { ReadConsumes (R.remaining self.old.inner)
             (R.remaining self.new.inner) result buf.new }
@@ -106,12 +106,11 @@ impl<W: Write> Sink for StdSink<W> {
             (AppendsFront (told_by W.contents self.old) (told_by W.contents self.new) piece.now) }
         ensures later { self.old.faults ≤ self.new.faults }
         ensures cause { result ≡ Err PutFault.Failed → Rose self.old.faults self.new.faults }
+        ensures stays { result ≢ Err PutFault.Failed → self.new.faults ≡ self.old.faults }
 
-        // Beside what the trait says: it takes no memory, and each error counts as one fault, and nothing
-        // else counts.
+        // Beside what the trait says: it takes no memory, and each error counts as one fault.
         ensures no_want { result ≢ Err PutFault.NoMemory }
         ensures raised { OnErr result (self.new.faults ≡ counted self.old.faults) }
-        ensures stays { OnOk result (self.new.faults ≡ self.old.faults) }
         // What the writer itself tells grows by the piece, or by a front of it, also after a fault.
         ensures inner_ok { OnOk result
             (Appends (W.contents self.old.inner) (W.contents self.new.inner) piece.now) }

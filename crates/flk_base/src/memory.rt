@@ -1,5 +1,5 @@
 // A source and a sink in memory, which fail the calls that they are told to.
-ghost use Rattle.std.specs.Prelude.{◌≡◌, ◌+◌, ◌<◌, ◌≤◌, ◌↔◌, ◌==◌, ℕ, List, [], ◌++◌, Option, Some, length, drop, min, Ok, Contains, IsTrue, IsErr, IfOk, OnOk, OnErr};
+ghost use Rattle.std.specs.Prelude.{◌≡◌, ◌≢◌, ◌+◌, ◌<◌, ◌≤◌, ◌↔◌, ◌==◌, ℕ, List, [], ◌++◌, Option, Some, length, drop, min, Ok, Contains, IsTrue, IsErr, IfOk, OnOk, OnErr};
 ghost use Rattle.std.specs.Io.{ReadsAtMost};
 ghost use Rattle.std.specs.Io.KnownBytes.{ReadConsumes, Appends};
 ghost use Rattle.flk_base.specs.Causes.{HasCause, Rose, counted};
@@ -86,6 +86,7 @@ impl Source for MemSource {
         ensures bytes { OnOk result (ReadConsumes (Some self.old.left) (Some self.new.left) result buf.new) }
         ensures kept { OnErr result (KeepsWhereTold (Some self.old.left) (Some self.new.left)) }
         ensures cause { HasCause self.old.faults self.new.faults result }
+        ensures stays { OnOk result (self.new.faults ≡ self.old.faults) }
 
         // Beside what the trait says: which reads fail, how many bytes one gives, and what stands after it.
         ensures failing { IsErr result ↔ Contains self.old.failing self.old.calls }
@@ -173,6 +174,7 @@ impl Sink for MemSink {
         ensures err { OnErr result (AppendsFront (Some self.old.contents) (Some self.new.contents) piece.now) }
         ensures later { self.old.faults ≤ self.new.faults }
         ensures cause { result ≡ Err PutFault.Failed → Rose self.old.faults self.new.faults }
+        ensures stays { result ≢ Err PutFault.Failed → self.new.faults ≡ self.old.faults }
 
         // Beside what the trait says: which puts fail, and what stands after each answer.
         ensures failing { (result ≡ Err PutFault.Failed) ↔ Contains self.old.failing self.old.calls }

@@ -1,5 +1,5 @@
 // Where bytes come from, and where they go.
-ghost use Rattle.std.specs.Prelude.{◌≡◌, ◌<◌, ◌≤◌, ℕ, List, Option, length, OnOk, OnErr};
+ghost use Rattle.std.specs.Prelude.{◌≡◌, ◌≢◌, ◌<◌, ◌≤◌, ℕ, List, Option, length, OnOk, OnErr};
 ghost use Rattle.std.specs.Io.{ReadsAtMost};
 ghost use Rattle.std.specs.Io.KnownBytes.{ReadConsumes, Appends};
 ghost use Rattle.flk_base.specs.Causes.{HasCause, Rose};
@@ -34,7 +34,9 @@ pub trait Source {
         ensures bound { ReadsAtMost result buf.new }
         ensures bytes { OnOk result (ReadConsumes (left self.old) (left self.new) result buf.new) }
         ensures kept { OnErr result (KeepsWhereTold (left self.old) (left self.new)) }
-        ensures cause { HasCause (fault_count self.old) (fault_count self.new) result };
+        ensures cause { HasCause (fault_count self.old) (fault_count self.new) result }
+        // Nothing but a fault counts.
+        ensures stays { OnOk result (fault_count self.new ≡ fault_count self.old) };
 
     /// How many faults there have been.
     fn faults(&self) -> u64
@@ -54,7 +56,9 @@ pub trait Sink {
         ensures ok { OnOk result (Appends (contents self.old) (contents self.new) piece.now) }
         ensures err { OnErr result (AppendsFront (contents self.old) (contents self.new) piece.now) }
         ensures later { fault_count self.old ≤ fault_count self.new }
-        ensures cause { result ≡ Err PutFault.Failed → Rose (fault_count self.old) (fault_count self.new) };
+        ensures cause { result ≡ Err PutFault.Failed → Rose (fault_count self.old) (fault_count self.new) }
+        // Nothing but a fault counts, and want of memory is none.
+        ensures stays { result ≢ Err PutFault.Failed → fault_count self.new ≡ fault_count self.old };
 
     /// How many faults there have been.
     fn faults(&self) -> u64
