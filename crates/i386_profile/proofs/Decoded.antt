@@ -26,7 +26,7 @@ pub record IsFound (bytes rest : List ℕ) (ins : Ins) : Type 0 where
   pub shorter : length rest ≤ length bytes
   pub begins : Begins ins (length bytes - length rest) bytes
   pub least : 1 ≤ length bytes - length rest
-  pub most : length bytes - length rest ≤ 16
+  pub most : length bytes - length rest ≤ 11
 
 pub is_found : (bytes rest : List ℕ) (ins : Ins) → IsBytes bytes → instruction_at bytes ≡ Some (ins, rest) → IsFound bytes rest ins
 is_found bytes rest ins fits e =

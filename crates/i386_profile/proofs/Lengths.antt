@@ -1,5 +1,5 @@
--- A spelling has 1 to 16 bytes.
-use Rattle.std.proofs.Common.{◌≡◌, ℕ, ◌≤◌, List, ◌++◌, length, Option, Some, None, refl, ap, ◌∙◌, arith, inl, inr}
+-- A spelling has 1 to 11 bytes.
+use Rattle.std.proofs.Common.{◌≡◌, ℕ, ◌+◌, ◌≤◌, List, ◌++◌, length, Option, Some, None, refl, ap, ◌∙◌, arith, inl, inr}
 use Rattle.std.proofs.lemmas.List.{length-append}
 use Rattle.std.specs.Int.{w32, to_le_bytes}
 use Rattle.i386_profile.specs.declared.operands.Reg.{Reg}
@@ -13,7 +13,7 @@ use Rattle.i386_profile.specs.Spelling.{IsDoubleword, IsByte, IsSignedByte, base
 use Rattle.i386_profile.specs.Spelling.{IsDisplacement}
 
 abbrev pub IsBounded : List ℕ → Type 0
-IsBounded a = (1 ≤ length a) × (length a ≤ 16)
+IsBounded a = (1 ≤ length a) × (length a ≤ 11)
 
 -- a number of at most four bytes
 abbrev IsShort : (ℕ → List ℕ → Type 0) → Type 0
@@ -80,15 +80,6 @@ slash_bounded opcode reg rm a head (o, so, e) =
     let tail = rm_length reg rm o so in
     (omega arith, omega arith)
 
-slash_immediate_bounded : (Is : ℕ → List ℕ → Type 0) (opcode : List ℕ) (reg : ℕ) (rm : Rm) (n : ℕ) (a : List ℕ) → IsShort Is → IsOpcode opcode
-    → HasOperandImmediate Is opcode reg rm n a → IsBounded a
-slash_immediate_bounded Is opcode reg rm n a short head (o, i, so, is, e) =
-    let l = ap length e ∙ length-append (opcode ++ o) i in
-    let m = length-append opcode o in
-    let middle = rm_length reg rm o so in
-    let tail = short n i is in
-    (omega arith, omega arith)
-
 one_immediate : (Is : ℕ → List ℕ → Type 0) (opcode n : ℕ) (a : List ℕ) → IsShort Is → HasImmediate Is (one_byte opcode) n a → IsBounded a
 one_immediate Is opcode n a short h = immediate_bounded Is (one_byte opcode) n a short (one opcode) h
 
@@ -102,7 +93,12 @@ two_slash : (opcode reg : ℕ) (rm : Rm) (a : List ℕ) → HasOperand (two_byte
 two_slash opcode reg rm a h = slash_bounded (two_byte opcode) reg rm a (two opcode) h
 
 one_slash_immediate : (Is : ℕ → List ℕ → Type 0) (opcode reg : ℕ) (rm : Rm) (n : ℕ) (a : List ℕ) → IsShort Is → HasOperandImmediate Is (one_byte opcode) reg rm n a → IsBounded a
-one_slash_immediate Is opcode reg rm n a short h = slash_immediate_bounded Is (one_byte opcode) reg rm n a short (one opcode) h
+one_slash_immediate Is opcode reg rm n a short (o, i, so, is, e) =
+    let l = ap length e ∙ length-append (one_byte opcode ++ o) i in
+    let m : length (one_byte opcode ++ o) ≡ 1 + length o = length-append (one_byte opcode) o in
+    let middle = rm_length reg rm o so in
+    let tail = short n i is in
+    (omega arith, omega arith)
 
 exchanged_bounded : (opcode : ℕ) (rm : Rm) (r : Reg) (a : List ℕ) → HasExchanged (one_byte opcode) rm r a → IsBounded a
 exchanged_bounded opcode (rms.Reg s) r a h = one_slash opcode (reg_code s) (rms.Reg r) a h

@@ -40,9 +40,9 @@ IsInRange (Call rel) = rel < 2 ^ 32
 IsInRange (Gate n) = n < 256
 IsInRange other = Unit {0}
 
--- Every instruction has a spelling: the chosen one, of at most 16 bytes.
+-- Every instruction has a spelling: the chosen one, of at most 11 bytes.
 abbrev pub ChosenSpells : Type 0
-ChosenSpells = (ins : Ins) → IsInRange ins → Spells ins (chosen ins) × (length (chosen ins) ≤ 16)
+ChosenSpells = (ins : Ins) → IsInRange ins → Spells ins (chosen ins) × (length (chosen ins) ≤ 11)
 
 -- Where the chosen spelling stands, the instruction begins there, whatever follows.
 abbrev pub RoundTrip : Type 0

@@ -18,7 +18,7 @@ fn first(bytes: &[u8]) -> Result<(Ins, usize), Undecoded>
     ensures only { (ins : InsView) (n : ℕ) → Begins ins n bytes.now → result ≡ Ok (ins, n) }
     ensures undecoded { IsErr result ↔ NoneBegins bytes.now }
     ensures least { IfOk result (λ r. 1 ≤ r.1) }
-    ensures most { IfOk result (λ r. r.1 ≤ 16) }
+    ensures most { IfOk result (λ r. r.1 ≤ 11) }
 {
     match instruction(bytes) {
         Some((ins, rest)) => Ok((ins, bytes.len() - rest.len())),
@@ -37,7 +37,7 @@ pub fn decode(bytes: &[u8], at: usize) -> Result<(Ins, usize), Undecoded>
     ensures undecoded { IsErr result ↔ NoneBegins (drop at bytes.now) }
 
     ensures least { IfOk result (λ r. 1 ≤ r.1) }
-    ensures most { IfOk result (λ r. r.1 ≤ 16) }
+    ensures most { IfOk result (λ r. r.1 ≤ 11) }
     ensures within { IfOk result (λ r. at + r.1 ≤ length bytes.now) }
 {
     let (_, from) = bytes.split_at(at);

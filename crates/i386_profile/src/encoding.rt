@@ -202,7 +202,7 @@ pub fn encode(ins: &Ins, out: &mut [u8; 16]) -> usize
     w.copy_to(out)
 }
 
-/// Every instruction has a spelling: the one that `encode` writes, of at most 16 bytes.
+/// Every instruction has a spelling: the one that `encode` writes, of at most 11 bytes.
 pub fn chosen_spells()
     ensures { ChosenSpells }
 {}
