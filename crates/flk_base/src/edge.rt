@@ -120,6 +120,7 @@ impl<W: Write> Sink for StdSink<W> {
         ensures empty { piece.now ≡ [] → IsOk result }
     {
         let mut rest = piece;
+        // What is not in `rest` is written, and no fault has come so far.
         while !rest.is_empty() {
             match self.inner.write(rest) {
                 Ok(count) if 0 < count => rest = &rest[count..],

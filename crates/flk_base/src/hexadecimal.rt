@@ -76,6 +76,7 @@ fn digits(byte: u8) -> [u8; 2]
 {
     let mut pair = [0u8; 2];
     let one = [byte];
+    // It can't fail: the pair has room for the digits of one byte.
     let _ = hex::encode_to_slice(one.as_slice(), &mut pair);
     pair
 }

@@ -21,6 +21,7 @@ fn fits_span(pool: &Pool, at: u32, count: usize) -> bool
     match pool.span_at(at / 4096) {
         Some((first, frames)) => {
             let end = 4096 * (first as usize + frames as usize);
+            // The place lies in this span, so it is below its end.
             count <= end - at as usize
         }
         None => false,

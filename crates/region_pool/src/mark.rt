@@ -10,7 +10,7 @@ pub enum Mark {
     Free,
     /// The first frame of a span that serves the host.
     Host,
-    /// The first frame of a span that serves a launch.
+    /// The first frame of a span that serves a session.
     Launch,
     /// A frame of the same span as the frame before it.
     Next,

@@ -14,7 +14,7 @@ const REGISTERS: usize = 24;
 /// The 24 registers. Contracts see the list of their values, 20 bytes each.
 #[derive(Drop)]
 pub struct Bank {
-    registers: [[u8; 20]; 24],
+    registers: [[u8; 20]; REGISTERS],
 }
 
 impl Model for Bank {
