@@ -56,7 +56,3 @@ chain_of chains r = slice_index_or chains r launch_chain
 -- the chains after register r was extended by a text
 abbrev pub with_text : List Chain → ℕ → List ℕ → List Chain
 with_text chains r text = slice_set chains r (chain_of chains r ▷ text)
-
--- the chains after a late launch reset register 17
-abbrev pub launched : List Chain → List Chain
-launched chains = slice_set chains 17 launch_chain
