@@ -4,6 +4,7 @@ use Rattle.std.specs.Prelude.{◌==◌, Option, Some, None, Result, Ok, Err, Mat
 use Rattle.std.proofs.lemmas.Bool.Decides.{nat_tests}
 use Rattle.std.proofs.lemmas.List.{nil_from_length}
 use Rattle.flk_base.specs.Buffer.{Buffer}
+use Rattle.flk_base.specs.Checks.{◌>>=◌}
 use Rattle.pal_asm.specs.declared.fault.AsmError.{AsmError}
 use Rattle.pal_asm.specs.declared.fault.AsmError.TheVariants.{At, NoMemory}
 use Rattle.pal_asm.specs.declared.fault.AsmFault.{AsmFault}
@@ -15,9 +16,8 @@ use Rattle.pal_asm.specs.declared.names.Name.{Name}
 use Rattle.pal_asm.specs.declared.names.Mnemonic.{Mnemonic}
 use Rattle.pal_asm.specs.Tokens.{Token, tokens}
 use Rattle.pal_asm.specs.Lines.{lines, content, without_comment}
-use Rattle.pal_asm.specs.Assembling.{Line, Draft, ◌>>=◌, unless, is_defined, label_in, word_in, statement_in, line_in, with_line, at_line, line_tokens, draft_of}
+use Rattle.pal_asm.specs.Assembling.{Line, Draft, unless, is_defined, sized_line, label_in, word_in, statement_in, line_in, with_line, at_line, line_tokens, draft_of}
 use Rattle.pal_asm.specs.Seen.{Refuses, RefusesLine}
-use Rattle.pal_asm.specs.SeenDraft.{sized_line}
 use Rattle.pal_asm.proofs.DraftLemmas.{fits}
 use denote.Ref.{Bor}
 

@@ -3,16 +3,19 @@ use Rattle.std.proofs.Common.{◌≡◌, ℕ, ◌+◌, ◌≤◌, ◌<◌, lengt
 use Rattle.std.specs.Prelude.{◌&&◌, Option, Some, None, option_map, option_and_then, MatchOption, IfSome, Result, Ok, Err, if◌then◌else◌}
 use Rattle.std.specs.List.{list_all, slice_split}
 use Rattle.std.proofs.lemmas.List.Splits.{length-slice_split}
+use Rattle.flk_base.specs.Checks.{◌>>=◌}
 use Rattle.pal_asm.specs.declared.fault.AsmKind.{AsmKind}
 use Rattle.pal_asm.specs.declared.fault.AsmKind.TheVariants as kind
 use Rattle.pal_asm.specs.declared.names.Mnemonic.TheVariants as m
 use Rattle.pal_asm.specs.declared.operand.Operand.{Operand}
 use Rattle.pal_asm.specs.declared.operand.Operand.TheVariants.{Register, ByteRegister, Number, Label, Memory, Dword, Byte}
+use Rattle.pal_asm.specs.declared.statement.ByteNumber.{ByteNumber}
+use Rattle.pal_asm.specs.declared.statement.ByteNumber.TheVariants.{Within, Outside}
 use Rattle.pal_asm.specs.Tokens.{Token, tokens, is_comma}
 use Rattle.pal_asm.specs.Numbers.{low8}
 use Rattle.pal_asm.specs.Operands.{operand_of, all_operands, is_within, is_in_range}
 use Rattle.pal_asm.specs.Statements.{Statement, Bytes, numbers_of, byte_of}
-use Rattle.pal_asm.specs.Assembling.{◌>>=◌, or_fault, statement_in}
+use Rattle.pal_asm.specs.Assembling.{or_fault, statement_in}
 use Rattle.pal_asm.specs.Seen.{signed_as, operand_as}
 use Rattle.pal_asm.specs.SeenStatements.{pieces, number_byte, operand_byte}
 use Rattle.pal_asm.proofs.ClampLemmas.{same_byte, exact_byte}
@@ -44,8 +47,8 @@ no_byte x h = ap (option_and_then operand_byte) h ∙ byte_by x
 
 -- ---- all pieces
 
-abbrev step : (Bool → List ℕ → Result (List ℕ) AsmKind) → Bool → List ℕ → Option (Option ℕ) → Result (List ℕ) AsmKind
-step next ok out byte = elim byte [ None ↦ Err kind.Operand | Some b ↦ elim b [ Some n ↦ next ok (out ++ n ∷ []) | None ↦ next false out ] ]
+abbrev step : (Bool → List ℕ → Result (List ℕ) AsmKind) → Bool → List ℕ → Option ByteNumber → Result (List ℕ) AsmKind
+step next ok out byte = elim byte [ None ↦ Err kind.Operand | Some b ↦ elim b [ Within n ↦ next ok (out ++ n ∷ []) | Outside ↦ next false out ] ]
 
 -- the bytes of pieces behind those before, which were all in range or not
 abbrev pub bytes_from : List (List Token) → Bool → List ℕ → Result (List ℕ) AsmKind

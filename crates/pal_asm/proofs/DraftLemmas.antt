@@ -3,6 +3,7 @@ use Rattle.std.proofs.Common.{◌≡◌, ℕ, ◌+◌, ◌<◌, ◌≤◌, List,
 use Rattle.std.specs.Prelude.{Option, Result, Ok, Err, nat_lt}
 use Rattle.std.proofs.lemmas.Bool.Decides.{nat_tests}
 use Rattle.std.proofs.lemmas.List.{drop_more, drop_all, drop-map}
+use Rattle.flk_base.specs.Checks.{◌>>=◌}
 use Rattle.pal_asm.specs.declared.fault.AsmFault.{AsmFault}
 use Rattle.pal_asm.specs.declared.fault.AsmError.{AsmError}
 use Rattle.pal_asm.specs.declared.fault.AsmError.TheVariants.{At, NoMemory}
@@ -10,8 +11,8 @@ use Rattle.pal_asm.specs.declared.names.Name.{Name}
 use Rattle.pal_asm.specs.Seen.{Refuses}
 use Rattle.pal_asm.specs.declared.placed.Placed.{Placed as Held}
 use Rattle.pal_asm.specs.Statements.{Statement}
-use Rattle.pal_asm.specs.Assembling.{Placed, Draft, ◌>>=◌, line_size, code_with}
-use Rattle.pal_asm.specs.SeenDraft.{placed_seen, placed_bytes, sized_line}
+use Rattle.pal_asm.specs.Assembling.{Placed, Draft, line_size, sized_line, placed_bytes, code_with}
+use Rattle.pal_asm.specs.SeenDraft.{placed_seen}
 
 not_long : (n : ℕ) → n ≤ 49152 → nat_lt 49152 n ≡ false
 not_long n h = grind (arith, nat_tests)

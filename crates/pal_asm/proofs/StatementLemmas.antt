@@ -3,6 +3,7 @@ use Rattle.std.proofs.Common.{◌≡◌, ◌≢◌, ℕ, ◌+◌, ◌<◌, true,
 use Rattle.std.specs.Prelude.{Option, Some, None, option_map, option_and_then, is_some, MatchOption, Result, Ok, Err, if◌then◌else◌}
 use Rattle.std.specs.List.{list_all, slice_split}
 use Rattle.std.proofs.lemmas.List.Splits.{length-slice_split}
+use Rattle.flk_base.specs.Checks.{◌>>=◌}
 use Rattle.pal_asm.specs.declared.fault.AsmKind.{AsmKind}
 use Rattle.pal_asm.specs.declared.fault.AsmKind.TheVariants as kind
 use Rattle.pal_asm.specs.declared.names.Mnemonic.{Mnemonic}
@@ -11,7 +12,7 @@ use Rattle.pal_asm.specs.declared.operand.Operand.{Operand}
 use Rattle.pal_asm.specs.Tokens.{Token, is_comma}
 use Rattle.pal_asm.specs.Operands.{operand_of, all_operands, operands_of, is_in_range}
 use Rattle.pal_asm.specs.Statements.{Statement, statement_of, least_number, most_number}
-use Rattle.pal_asm.specs.Assembling.{◌>>=◌, or_fault, statement_in}
+use Rattle.pal_asm.specs.Assembling.{or_fault, statement_in}
 use Rattle.pal_asm.specs.Seen.{operand_as}
 use Rattle.pal_asm.specs.SeenStatements.{AreMore}
 use Rattle.pal_asm.proofs.FormLemmas.{of_statement}

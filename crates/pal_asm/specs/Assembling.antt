@@ -2,6 +2,7 @@
 use Rattle.std.specs.Prelude.{ℕ, ◌+◌, nat_lt, Bool, false, List, [], ◌∷◌, ◌++◌, find, Option, Some, None, option_map, is_some, Result, Ok, Err, if◌then◌else◌}
 use Rattle.std.specs.List.{list_all}
 use Rattle.std.specs.Str.{bytes_eq}
+use Rattle.flk_base.specs.Checks.{◌>>=◌}
 use Rattle.pal_asm.specs.declared.fault.AsmKind.{AsmKind}
 use Rattle.pal_asm.specs.declared.fault.AsmKind.TheVariants as kind
 use Rattle.pal_asm.specs.declared.fault.AsmFault.{AsmFault}
@@ -12,12 +13,6 @@ use Rattle.pal_asm.specs.Tokens.{Token, Word, Colon, tokens}
 use Rattle.pal_asm.specs.Names.{mnemonic_of, name_of}
 use Rattle.pal_asm.specs.Operands.{operands_of, is_in_range}
 use Rattle.pal_asm.specs.Statements.{Statement, statement_of, least_number, most_number, most_code, bytes_at, size_of, label_of}
-
-infixl 10 ◌>>=◌
--- the second step, where the first found no fault
-abbrev pub ◌>>=◌ : {A B E : Type 0} → Result A E → (A → Result B E) → Result B E
-Ok x >>= f = f x
-Err e >>= f = Err e
 
 -- the value, or this fault where there is none
 abbrev pub or_fault : {A E : Type 0} → E → Option A → Result A E
@@ -92,6 +87,12 @@ abbrev pub line_size : Option Statement → ℕ
 line_size None = 0
 line_size (Some s) = size_of s
 
+-- the line, where the code is not too long with it
+abbrev pub sized_line : Draft → Option Name → Option Statement → Result Line AsmKind
+sized_line before label statement =
+    unless (nat_lt (code_start + most_code) (before.end + line_size statement)) kind.TooLong
+    (record { label = label; statement = statement })
+
 -- a line behind others, or its first fault: the checks in their order
 abbrev pub line_in : Draft → List Token → Result Line AsmKind
 line_in before ts =
@@ -99,8 +100,7 @@ line_in before ts =
     word_in label.1 >>= λ word.
     unless (is_defined before.labels label.0) kind.Twice label.0 >>= λ name.
     statement_in word >>= λ statement.
-    unless (nat_lt (code_start + most_code) (before.end + line_size statement)) kind.TooLong
-    (record { label = name; statement = statement })
+    sized_line before name statement
 
 -- a label stands for the offset that was reached
 abbrev pub with_label : Option Name → ℕ → List (Name × ℕ) → List (Name × ℕ)
@@ -145,12 +145,15 @@ awaited labels (Some name) = value_of labels name
 abbrev pub bytes_with : List (Name × ℕ) → ℕ → Statement → Option (List ℕ)
 bytes_with labels at s = option_map (λ value. bytes_at at value s) (awaited labels (label_of s))
 
+-- the same of a placed statement, or the fault of its line
+abbrev pub placed_bytes : List (Name × ℕ) → Placed → Result (List ℕ) AsmFault
+placed_bytes labels p = at_line p.line (or_fault kind.Label (bytes_with labels p.at p.statement))
+
 -- The second pass: the bytes of the statements, or the first line whose label is not defined.
 abbrev pub code_with : List (Name × ℕ) → List Placed → Result (List ℕ) AsmFault
 code_with labels [] = Ok []
 code_with labels (p ∷ ps) =
-    at_line p.line (or_fault kind.Label (bytes_with labels p.at p.statement)) >>= λ bytes.
-    code_with labels ps >>= λ rest. Ok (bytes ++ rest)
+    placed_bytes labels p >>= λ bytes. code_with labels ps >>= λ rest. Ok (bytes ++ rest)
 
 -- the code of a text, or its first fault
 abbrev pub code_of : List ℕ → Result (List ℕ) AsmFault

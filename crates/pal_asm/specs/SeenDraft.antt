@@ -1,19 +1,17 @@
 -- How clauses see what lines gave.
-use Rattle.std.specs.Prelude.{◌≡◌, ℕ, ◌+◌, List, map, Option, Result, Ok, MatchResult, nat_lt}
+use Rattle.std.specs.Prelude.{◌≡◌, ℕ, List, map, Option, Result, Ok, MatchResult}
 use Rattle.std.specs.Ordering.{nat_cmp}
 use Rattle.std.specs.Cmp.Lexicographic.{slice_cmp}
 use Rattle.std.specs.BTreeMap.{BTreeMap, get}
 use Rattle.std.specs.declared.cmp.Ordering.{Ordering}
 use Rattle.pal_asm.specs.declared.fault.AsmKind.{AsmKind}
-use Rattle.pal_asm.specs.declared.fault.AsmKind.TheVariants as kind
 use Rattle.pal_asm.specs.declared.fault.AsmError.{AsmError}
-use Rattle.pal_asm.specs.declared.fault.AsmFault.{AsmFault}
 use Rattle.pal_asm.specs.declared.fault.LineFault.{LineFault}
 use Rattle.pal_asm.specs.declared.names.Name.{Name}
 use Rattle.pal_asm.specs.declared.placed.Placed.{Placed as HeldPlaced}
 use Rattle.pal_asm.specs.declared.draft.Draft.{Draft as HeldDraft}
-use Rattle.pal_asm.specs.Statements.{Statement, most_code}
-use Rattle.pal_asm.specs.Assembling.{Line, Placed, Draft, value_of, code_start, line_size, unless, at_line, or_fault, bytes_with, with_line, line_in, line_tokens}
+use Rattle.pal_asm.specs.Statements.{Statement}
+use Rattle.pal_asm.specs.Assembling.{Line, Placed, Draft, value_of, at_line, with_line, line_in, line_tokens}
 use Rattle.pal_asm.specs.Seen.{Refuses, RefusesLine}
 use Rattle.pal_asm.specs.SeenStatements.{seen}
 
@@ -34,16 +32,6 @@ pub record Stands (held : HeldDraft) (draft : Draft) : Type 0 where
   pub labels : HasLabels held.labels draft.labels
   pub placed : map placed_seen held.placed.items ≡ draft.placed
   pub end : held.end ≡ draft.end
-
--- the line, where the code is not too long with it
-abbrev pub sized_line : Draft → Option Name → Option Statement → Result Line AsmKind
-sized_line before label statement =
-    unless (nat_lt (code_start + most_code) (before.end + line_size statement)) kind.TooLong
-    (record { label = label; statement = statement })
-
--- the bytes of a placed statement, where its label is defined
-abbrev pub placed_bytes : List (Name × ℕ) → Placed → Result (List ℕ) AsmFault
-placed_bytes labels p = at_line p.line (or_fault kind.Label (bytes_with labels p.at p.statement))
 
 -- a line was added, or has this fault
 abbrev pub Adds : {T : Type 0} → ℕ → Draft → HeldDraft → Result Line AsmKind → Result T LineFault → Type 0

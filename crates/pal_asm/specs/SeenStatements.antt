@@ -8,6 +8,8 @@ use Rattle.pal_asm.specs.declared.operand.Operand.{Operand}
 use Rattle.pal_asm.specs.declared.operand.Operand.TheVariants.{Number}
 use Rattle.pal_asm.specs.declared.statement.Statement.{Statement as Held}
 use Rattle.pal_asm.specs.declared.statement.Statement.TheVariants as held
+use Rattle.pal_asm.specs.declared.statement.ByteNumber.{ByteNumber}
+use Rattle.pal_asm.specs.declared.statement.ByteNumber.TheVariants.{Within, Outside}
 use Rattle.pal_asm.specs.declared.statement.Operands.{Operands as HeldOperands}
 use Rattle.pal_asm.specs.declared.statement.Operands.TheVariants.{Nothing, One, Two}
 use Rattle.pal_asm.specs.Tokens.{Token, tokens, is_comma}
@@ -24,12 +26,12 @@ abbrev pub AreMore : ℕ → Option (List Operand) → Type 0
 AreMore n None = Unit {0}
 AreMore n (Some os) = n < length os
 
--- the low byte of a number, where it is in range
-abbrev pub number_byte : ℤ → Option ℕ
-number_byte z = if is_within (least_number m.Byte) (most_number m.Byte) z then Some (low8 z) else None
+-- a number of .byte: its low byte, where it is in range
+abbrev pub number_byte : ℤ → ByteNumber
+number_byte z = if is_within (least_number m.Byte) (most_number m.Byte) z then Within (low8 z) else Outside
 
 -- that of an operand, which must be a number
-abbrev pub operand_byte : Operand → Option (Option ℕ)
+abbrev pub operand_byte : Operand → Option ByteNumber
 operand_byte (Number z) = Some (number_byte z)
 operand_byte _ = None
 

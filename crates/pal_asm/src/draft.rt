@@ -30,10 +30,10 @@ pub(crate) struct Draft {
 
 impl Draft {
     ghost use Rattle.std.specs.Prelude.{◌≡◌, false, option_map, MatchResult, Ok};
-    ghost use Rattle.pal_asm.specs.Assembling.{Draft as Lines, no_lines, is_defined, code_with};
+    ghost use Rattle.pal_asm.specs.Assembling.{Draft as Lines, no_lines, is_defined, sized_line, code_with};
     ghost use Rattle.pal_asm.specs.Seen.{Refuses};
     ghost use Rattle.pal_asm.specs.SeenStatements.{seen};
-    ghost use Rattle.pal_asm.specs.SeenDraft.{Stands, sized_line, Adds};
+    ghost use Rattle.pal_asm.specs.SeenDraft.{Stands, Adds};
 
     /// Before the first line.
     pub(crate) fn new(alloc: Global) -> Draft

@@ -2,10 +2,10 @@
 
 ghost use Rattle.std.specs.Prelude.{◌≡◌, ◌++◌, ℕ, List, map, option_map, OnOk, MatchResult, Ok};
 ghost use Rattle.pal_asm.specs.declared.names.Name.{Name as NameView};
-ghost use Rattle.pal_asm.specs.Assembling.{with_statement, line_size};
+ghost use Rattle.pal_asm.specs.Assembling.{with_statement, line_size, placed_bytes};
 ghost use Rattle.pal_asm.specs.Seen.{Refuses};
 ghost use Rattle.pal_asm.specs.SeenStatements.{seen};
-ghost use Rattle.pal_asm.specs.SeenDraft.{HasLabels, placed_seen, placed_bytes};
+ghost use Rattle.pal_asm.specs.SeenDraft.{HasLabels, placed_seen};
 
 use crate::fault::{AsmError, AsmFault, AsmKind};
 use crate::labels::awaited;

@@ -367,19 +367,25 @@ fn operands_of(text: &[u8]) -> Option<Operands>
     }
 }
 
-/// The low byte of a number, where it is in range.
-fn number_byte(n: i64) -> Option<u8>
+/// A number of `.byte`: its low byte, where it is in range.
+#[derive(Clone, Copy)]
+enum ByteNumber {
+    Within(u8),
+    Outside,
+}
+
+fn number_byte(n: i64) -> ByteNumber
     ensures { result ≡ number_byte n }
 {
     if is_within(-128, 255, n) {
-        Some(low8(n))
+        ByteNumber::Within(low8(n))
     } else {
-        None
+        ByteNumber::Outside
     }
 }
 
 /// That of an operand, which must be a number.
-fn operand_byte(operand: Operand) -> Option<Option<u8>>
+fn operand_byte(operand: Operand) -> Option<ByteNumber>
     ensures { result ≡ operand_byte operand }
 {
     match operand {
@@ -389,7 +395,7 @@ fn operand_byte(operand: Operand) -> Option<Option<u8>>
 }
 
 /// That of a text.
-fn byte_of(piece: &[u8]) -> Option<Option<u8>>
+fn byte_of(piece: &[u8]) -> Option<ByteNumber>
     ensures { result ≡ option_and_then operand_byte (operand_of (tokens piece.now)) }
 {
     match operand_of(piece) {
@@ -413,8 +419,8 @@ fn bytes_of(alloc: Global, text: &[u8]) -> Result<Bytes, LineFault>
             return Err(LineFault::Kind(AsmKind::Operand));
         };
         match byte {
-            Some(byte) => bytes.push_all(&[byte]).map_err(|_| LineFault::NoMemory)?,
-            None => are_in_range = false,
+            ByteNumber::Within(byte) => bytes.push_all(&[byte]).map_err(|_| LineFault::NoMemory)?,
+            ByteNumber::Outside => are_in_range = false,
         }
         rest = behind;
     }

@@ -1,9 +1,10 @@
 use Rattle.std.proofs.Common.{sym, ap, ◌∙◌, subst}
 use Rattle.std.proofs.lemmas.Result.{err_from_is_err_and}
+use Rattle.flk_base.specs.Checks.{◌>>=◌}
 use Rattle.pal_asm.specs.Tokens.{tokens}
-use Rattle.pal_asm.specs.Assembling.{◌>>=◌, statement_in}
+use Rattle.pal_asm.specs.Assembling.{sized_line, statement_in}
 use Rattle.pal_asm.specs.SeenStatements.{word_seen}
-use Rattle.pal_asm.specs.SeenDraft.{Adds, sized_line}
+use Rattle.pal_asm.specs.SeenDraft.{Adds}
 use Rattle.pal_asm.proofs.AssembleLemmas.{at_statement, refused_first}
 use Rattle.pal_asm.proofs.assembling.add_line.Goals as goal
 

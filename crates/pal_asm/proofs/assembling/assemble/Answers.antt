@@ -1,5 +1,6 @@
 use Rattle.std.proofs.Common.{ap}
-use Rattle.pal_asm.specs.Assembling.{◌>>=◌, code_with}
+use Rattle.flk_base.specs.Checks.{◌>>=◌}
+use Rattle.pal_asm.specs.Assembling.{code_with}
 use Rattle.pal_asm.proofs.AssembleLemmas.{if_code, if_fault}
 use Rattle.pal_asm.proofs.assembling.assemble.Goals as goal
 
