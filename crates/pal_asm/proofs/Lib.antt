@@ -25,3 +25,4 @@ mod LawRanges
 mod LawLines
 mod LawAssembles
 mod LawEachListed
+mod LawShort

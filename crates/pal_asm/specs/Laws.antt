@@ -1,5 +1,5 @@
 -- What holds of assembling and listing together.
-use Rattle.std.specs.Prelude.{◌≡◌, ℕ, ◌≤◌, ◌<◌, All, List, length, Ok}
+use Rattle.std.specs.Prelude.{◌≡◌, ℕ, ◌≤◌, ◌<◌, ◌^◌, All, List, length, Ok}
 use Rattle.pal_asm.specs.Statements.{most_code}
 use Rattle.pal_asm.specs.Assembling.{code_of}
 use Rattle.pal_asm.specs.Listing.{Met, Meets, AreChosen, Lists, text_of}
@@ -11,6 +11,10 @@ EachIsListed = (code : List ℕ) → All (λ byte. byte < 256) code → (text : 
 -- Code has one listing.
 abbrev pub OneListing : Type 0
 OneListing = (code a b : List ℕ) → Lists code a → Lists code b → a ≡ b
+
+-- A listing of code of at most 49,120 bytes is short enough for `assemble`.
+abbrev pub ListingIsShort : Type 0
+ListingIsShort = (code : List ℕ) (met : List Met) → length code ≤ most_code → Meets 0 met code → length (text_of 0 met) < 2 ^ 32
 
 -- Code of at most 49,120 bytes whose instructions stand in their chosen spellings is what its listing assembles to.
 abbrev pub ListingAssembles : Type 0

@@ -1,6 +1,6 @@
 //! What holds of assembling and listing together, as contracts.
 
-ghost use Rattle.pal_asm.specs.Laws.{EachIsListed, OneListing, ListingAssembles};
+ghost use Rattle.pal_asm.specs.Laws.{EachIsListed, OneListing, ListingIsShort, ListingAssembles};
 
 /// Every code has a listing.
 pub fn each_is_listed()
@@ -10,6 +10,11 @@ pub fn each_is_listed()
 /// Code has one listing.
 pub fn one_listing()
     ensures { OneListing }
+{}
+
+/// A listing of code of at most 49,120 bytes has fewer than 2^32 bytes, so it may be given to `assemble`.
+pub fn listing_is_short()
+    ensures { ListingIsShort }
 {}
 
 /// Code of at most 49,120 bytes whose instructions stand in their chosen spellings is what its listing assembles to.
