@@ -1,6 +1,6 @@
 //! From code to its listing.
 
-ghost use Rattle.std.specs.Prelude.{◌≡◌, ◌+◌, ◌<◌, ◌≤◌, ◌++◌, length, decimal, IfOk, OnOk};
+ghost use Rattle.std.specs.Prelude.{◌≡◌, ◌+◌, ◌<◌, ◌≤◌, ◌++◌, length, [], decimal, IfOk, IsOk, OnOk};
 ghost use Rattle.pal_asm.specs.Listing.{offset, text1, Puts, Lists};
 
 use crate::names::Mnemonic;
@@ -46,7 +46,9 @@ fn put_statement(text: &mut Text, code: &[u8], at: usize) -> Result<usize, NoMem
 
 /// The listing of code, a line for each instruction and for each byte where none begins.
 pub fn disassemble(alloc: Global, code: &[u8]) -> Result<Bytes, NoMemory>
-    ensures { IfOk result (λ text. Lists code.now text.bytes) }
+    ensures listing { IfOk result (λ text. Lists code.now text.bytes) }
+    // Where there is no code, no memory is wanted.
+    ensures empty { code.now ≡ [] → IsOk result }
 {
     let mut text = Text::new(alloc);
     let mut at = 0;
