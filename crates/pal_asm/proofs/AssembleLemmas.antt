@@ -1,5 +1,5 @@
 -- A line by its steps, and a text by its lines.
-use Rattle.std.proofs.Common.{◌≡◌, ℕ, ◌+◌, ◌^◌, ◌<◌, ◌≤◌, true, false, List, [], ◌∷◌, length, sym, ap, ◌∙◌, subst, arith}
+use Rattle.std.proofs.Common.{◌≡◌, ◌≢◌, ℕ, ◌+◌, ◌^◌, ◌<◌, ◌≤◌, true, false, List, [], ◌∷◌, length, sym, ap, ◌∙◌, subst, arith}
 use Rattle.std.specs.Prelude.{◌==◌, Option, Some, None, Result, Ok, Err, MatchOption, MatchResult, IfOk, IfErr}
 use Rattle.std.proofs.lemmas.Bool.Decides.{nat_tests}
 use Rattle.std.proofs.lemmas.List.{nil_from_length}
@@ -16,7 +16,7 @@ use Rattle.pal_asm.specs.declared.names.Name.{Name}
 use Rattle.pal_asm.specs.declared.names.Mnemonic.{Mnemonic}
 use Rattle.pal_asm.specs.Tokens.{Token, tokens}
 use Rattle.pal_asm.specs.Lines.{lines, content, without_comment}
-use Rattle.pal_asm.specs.Assembling.{Line, Draft, unless, is_defined, sized_line, label_in, word_in, statement_in, line_in, with_line, at_line, line_tokens, draft_of}
+use Rattle.pal_asm.specs.Assembling.{Line, Draft, AreBlank, unless, is_defined, sized_line, label_in, word_in, statement_in, line_in, with_line, at_line, line_tokens, draft_of}
 use Rattle.pal_asm.specs.Seen.{Refuses, RefusesLine}
 use Rattle.pal_asm.proofs.DraftLemmas.{fits}
 use denote.Ref.{Bor}
@@ -29,37 +29,37 @@ after_word before label word = unless (is_defined before.labels label) kind.Twic
 abbrev after_label : Draft → Option Name × List Token → Result Line AsmKind
 after_label before label = word_in label.1 >>= λ word. after_word before label.0 word
 
-same_tokens : (line text whole : List ℕ) → whole ≡ content line → text ≡ without_comment whole → line_tokens line ≡ tokens text
+-- a line without its CR and its comment has the line's tokens
+pub same_tokens : (line text whole : List ℕ) → whole ≡ content line → text ≡ without_comment whole → line_tokens line ≡ tokens text
 same_tokens line text whole ew et = sym (ap tokens (et ∙ ap without_comment ew))
 
-at_label : (before : Draft) (line text whole : List ℕ) (answer : Result (Option Name × List Token) AsmKind) → whole ≡ content line → text ≡ without_comment whole
-    → label_in (tokens text) ≡ answer → line_in before (line_tokens line) ≡ (answer >>= after_label before)
-at_label before line text whole answer ew et el = ap (line_in before) (same_tokens line text whole ew et) ∙ ap (λ r. r >>= after_label before) el
+at_label : (before : Draft) (text : List ℕ) (answer : Result (Option Name × List Token) AsmKind)
+    → label_in (tokens text) ≡ answer → line_in before (tokens text) ≡ (answer >>= after_label before)
+at_label before text answer el = ap (λ r. r >>= after_label before) el
 
 -- the name before a colon is none
-pub label_fault : (before : Draft) (line text whole : List ℕ) (k : AsmKind) → whole ≡ content line → text ≡ without_comment whole → label_in (tokens text) ≡ Err k
-    → line_in before (line_tokens line) ≡ Err k
-label_fault before line text whole k ew et el = at_label before line text whole (Err k) ew et el
+pub label_fault : (before : Draft) (text : List ℕ) (k : AsmKind) → label_in (tokens text) ≡ Err k → line_in before (tokens text) ≡ Err k
+label_fault before text k el = at_label before text (Err k) el
 
 -- the word is none
-pub word_fault : (before : Draft) (line text whole : List ℕ) (label : Option Name × List Token) (k : AsmKind) → whole ≡ content line → text ≡ without_comment whole
-    → label_in (tokens text) ≡ Ok label → word_in label.1 ≡ Err k → line_in before (line_tokens line) ≡ Err k
-word_fault before line text whole label k ew et el e = at_label before line text whole (Ok label) ew et el ∙ ap (λ r. r >>= after_word before label.0) e
+pub word_fault : (before : Draft) (text : List ℕ) (label : Option Name × List Token) (k : AsmKind)
+    → label_in (tokens text) ≡ Ok label → word_in label.1 ≡ Err k → line_in before (tokens text) ≡ Err k
+word_fault before text label k el e = at_label before text (Ok label) el ∙ ap (λ r. r >>= after_word before label.0) e
 
 -- the label has been defined
-pub label_twice : (before : Draft) (line text whole : List ℕ) (label : Option Name × List Token) (word : Option (Mnemonic × List Token)) → whole ≡ content line
-    → text ≡ without_comment whole → label_in (tokens text) ≡ Ok label → word_in label.1 ≡ Ok word → is_defined before.labels label.0 ≡ true
-    → line_in before (line_tokens line) ≡ Err kind.Twice
-label_twice before line text whole label word ew et el e d =
-    at_label before line text whole (Ok label) ew et el ∙ ap (λ r. r >>= after_word before label.0) e
+pub label_twice : (before : Draft) (text : List ℕ) (label : Option Name × List Token) (word : Option (Mnemonic × List Token))
+    → label_in (tokens text) ≡ Ok label → word_in label.1 ≡ Ok word → is_defined before.labels label.0 ≡ true
+    → line_in before (tokens text) ≡ Err kind.Twice
+label_twice before text label word el e d =
+    at_label before text (Ok label) el ∙ ap (λ r. r >>= after_word before label.0) e
     ∙ ap (λ b. unless b kind.Twice label.0 >>= λ name. statement_in word >>= λ statement. sized_line before name statement) d
 
 -- the statement decides
-pub at_statement : (before : Draft) (line text whole : List ℕ) (label : Option Name × List Token) (word : Option (Mnemonic × List Token)) → whole ≡ content line
-    → text ≡ without_comment whole → label_in (tokens text) ≡ Ok label → word_in label.1 ≡ Ok word → is_defined before.labels label.0 ≡ false
-    → line_in before (line_tokens line) ≡ (statement_in word >>= λ statement. sized_line before label.0 statement)
-at_statement before line text whole label word ew et el e d =
-    at_label before line text whole (Ok label) ew et el ∙ ap (λ r. r >>= after_word before label.0) e
+pub at_statement : (before : Draft) (text : List ℕ) (label : Option Name × List Token) (word : Option (Mnemonic × List Token))
+    → label_in (tokens text) ≡ Ok label → word_in label.1 ≡ Ok word → is_defined before.labels label.0 ≡ false
+    → line_in before (tokens text) ≡ (statement_in word >>= λ statement. sized_line before label.0 statement)
+at_statement before text label word el e d =
+    at_label before text (Ok label) el ∙ ap (λ r. r >>= after_word before label.0) e
     ∙ ap (λ b. unless b kind.Twice label.0 >>= λ name. statement_in word >>= λ statement. sized_line before name statement) d
 
 -- a fault stays one
@@ -67,16 +67,36 @@ pub refused_first : {A B : Type 0} (f : LineFault) (first : Result A AsmKind) (n
 refused_first (fault.Kind k) first next whole e h = e ∙ ap (λ r. r >>= next) h
 refused_first fault.NoMemory first next whole e h = tt
 
--- ---- a line with nothing on it
+-- ---- lines with nothing on them
 
-empty_line : (n : ℕ) (before : Draft) → before.end ≤ 49152 → at_line n (line_in before (line_tokens [])) ≡ Ok (record { label = None; statement = None })
-empty_line n before h = ap (at_line n) (fits before None None (omega arith))
+abbrev nothing : Line
+nothing = record { label = None; statement = None }
 
-no_bytes : (line : List ℕ) → (length line == 0) ≡ true → line ≡ []
-no_bytes line h = nil_from_length line (grind (arith, nat_tests))
+pub nothing_added : (n : ℕ) (before : Draft) (line : List ℕ) → line_tokens line ≡ [] → before.end ≤ 49152 → at_line n (line_in before (line_tokens line)) ≡ Ok nothing
+nothing_added n before line e h = ap (λ ts. at_line n (line_in before ts)) e ∙ ap (at_line n) (fits before None None (omega arith))
 
-pub nothing_added : (n : ℕ) (before : Draft) (line : List ℕ) → (length line == 0) ≡ true → before.end ≤ 49152 → at_line n (line_in before (line_tokens line)) ≡ Ok (record { label = None; statement = None })
-nothing_added n before line e h = ap (λ l. at_line n (line_in before (line_tokens l))) (no_bytes line e) ∙ empty_line n before h
+-- a line that has tokens has bytes
+pub has_bytes : (line text : List ℕ) → text ≡ without_comment (content line) → tokens text ≢ [] → 1 ≤ length line
+has_bytes [] text e h = absurd (h (ap tokens e))
+has_bytes (c ∷ cs) text e h = omega arith
+
+-- blank lines place no statement
+pub none_placed : (n : ℕ) (before all : Draft) (ls : List (List ℕ)) → before.end ≤ 49152 → AreBlank ls → draft_of n before ls ≡ Ok all → all.placed ≡ before.placed
+none_placed n before all [] h b e = let same : before ≡ all = cc in ap (λ d. d.placed) (sym same)
+none_placed n before all (line ∷ rest) h b e =
+    let first : draft_of n before (line ∷ rest) ≡ draft_of (n + 1) (with_line n before nothing) rest =
+    ap (λ r. r >>= λ l. draft_of (n + 1) (with_line n before l) rest) (nothing_added n before line b.0 h) in
+    none_placed (n + 1) (with_line n before nothing) all rest (omega (arith, h)) b.1 (sym first ∙ e)
+
+-- what is left of blank lines is blank
+abbrev pub lines_left : Option (Bor (List ℕ)) → List (List ℕ)
+lines_left None = []
+lines_left (Some text) = lines text.now
+
+pub blank_first : (rest behind : Option (Bor (List ℕ))) (text : Bor (List ℕ)) (line : List ℕ) → rest ≡ Some text
+    → MatchOption behind (lines text.now ≡ line ∷ []) (λ r. lines text.now ≡ line ∷ lines r.now) → AreBlank (lines_left rest) → (line_tokens line ≡ []) × AreBlank (lines_left behind)
+blank_first rest None text line e m b = subst AreBlank (ap lines_left e ∙ m) b
+blank_first rest (Some r) text line e m b = subst AreBlank (ap lines_left e ∙ m) b
 
 -- ---- the lines of a text
 

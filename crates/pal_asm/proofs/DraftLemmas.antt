@@ -1,5 +1,5 @@
 -- A line with which the code is not too long, and the second pass, a statement at a time.
-use Rattle.std.proofs.Common.{◌≡◌, ℕ, ◌+◌, ◌<◌, ◌≤◌, List, [], ◌∷◌, ◌++◌, length, get_or, drop, map, refl, sym, ap, ◌∙◌, append_assoc, append-nil, false, arith}
+use Rattle.std.proofs.Common.{◌≡◌, ◌≢◌, ℕ, ◌+◌, ◌<◌, ◌≤◌, List, [], ◌∷◌, ◌++◌, length, get_or, drop, map, refl, sym, ap, ◌∙◌, append_assoc, append-nil, false, arith}
 use Rattle.std.specs.Prelude.{Option, Result, Ok, Err, nat_lt}
 use Rattle.std.proofs.lemmas.Bool.Decides.{nat_tests}
 use Rattle.std.proofs.lemmas.List.{drop_more, drop_all, drop-map}
@@ -23,6 +23,11 @@ pub fits : (before : Draft) (label : Option Name) (s : Option Statement) → bef
 fits before label s h = rw (not_long (before.end + line_size s) h) refl
 
 -- ---- the second pass
+
+-- a statement is placed
+pub some_placed : (items : List Held) (placed : List Placed) (i : ℕ) → map placed_seen items ≡ placed → i < length items → placed ≢ []
+some_placed [] placed i e l none = omega (arith, l)
+some_placed (p ∷ ps) placed i e l none = let h = e ∙ none in cc
 
 -- code behind other code
 abbrev pub behind : List ℕ → Result (List ℕ) AsmFault → Result (List ℕ) AsmFault

@@ -1,5 +1,5 @@
 -- The code of an assembler text, or its first fault.
-use Rattle.std.specs.Prelude.{ℕ, ◌+◌, nat_lt, Bool, false, List, [], ◌∷◌, ◌++◌, find, Option, Some, None, option_map, is_some, Result, Ok, Err, if◌then◌else◌}
+use Rattle.std.specs.Prelude.{◌≡◌, ℕ, ◌+◌, nat_lt, Bool, false, List, [], ◌∷◌, ◌++◌, find, Option, Some, None, option_map, is_some, Result, Ok, Err, if◌then◌else◌}
 use Rattle.std.specs.List.{list_all}
 use Rattle.std.specs.Str.{bytes_eq}
 use Rattle.flk_base.specs.Checks.{◌>>=◌}
@@ -129,6 +129,11 @@ at_line n (Err k) = Err (record { line = n; kind = k })
 -- the tokens of a line
 abbrev pub line_tokens : List ℕ → List Token
 line_tokens line = tokens (without_comment (content line))
+
+-- there is nothing on these lines but blanks and comments
+abbrev pub AreBlank : List (List ℕ) → Type 0
+AreBlank [] = Unit {0}
+AreBlank (line ∷ rest) = (line_tokens line ≡ []) × AreBlank rest
 
 -- The first pass, from line n on: the first line with a fault decides.
 abbrev pub draft_of : ℕ → Draft → List (List ℕ) → Result Draft AsmFault

@@ -1,11 +1,11 @@
 //! From an assembler text to its code.
 
-ghost use Rattle.std.specs.Prelude.{◌+◌, ◌≤◌, ◌≡◌, ◌≢◌, ◌∷◌, ◌<◌, ◌^◌, length, option_map, IfOk, IfErr, MatchOption, MatchResult, MatchBool, Result, Ok, Err};
+ghost use Rattle.std.specs.Prelude.{◌+◌, ◌≤◌, ◌≡◌, ◌≢◌, ◌∷◌, ◌<◌, ◌^◌, length, [], option_map, IfOk, IfErr, IsOk, MatchOption, MatchResult, MatchBool, Result, Ok, Err};
 ghost use Rattle.pal_asm.specs.declared.fault.AsmKind.{AsmKind as KindView};
 ghost use Rattle.pal_asm.specs.Tokens.{Colon, tokens};
 ghost use Rattle.pal_asm.specs.SeenTokens.{seen, NoColonFirst};
 ghost use Rattle.pal_asm.specs.Lines.{lines};
-ghost use Rattle.pal_asm.specs.Assembling.{Draft as Lines, Line, at_line, label_in, word_in, statement_in, line_in, line_tokens, no_lines, draft_of, code_of};
+ghost use Rattle.pal_asm.specs.Assembling.{Draft as Lines, Line, at_line, label_in, word_in, statement_in, line_in, line_tokens, no_lines, AreBlank, draft_of, code_of};
 ghost use Rattle.pal_asm.specs.Seen.{Refuses, RefusesLine};
 ghost use Rattle.pal_asm.specs.SeenDraft.{Stands, Adds, AddsLine};
 ghost use Rattle.pal_asm.specs.SeenStatements.{seen as seen_statement, word_seen};
@@ -15,7 +15,7 @@ use crate::fault::{AsmError, AsmFault, AsmKind, LineFault};
 use crate::lines::{content, split_line, without_comment};
 use crate::names::{Mnemonic, Name, mnemonic_of};
 use crate::statement::{Statement, statement_in};
-use crate::tokens::{Token, first_token};
+use crate::tokens::{Token, first_token, is_blank_text};
 use flk_base::Bytes;
 use std::alloc::Global;
 
@@ -111,11 +111,10 @@ fn statement_of(
     }
 }
 
-/// One more line, or its first fault: the checks in their order.
-fn add_line(draft: &mut Draft, alloc: Global, number: u32, line: &[u8]) -> Result<(), LineFault>
-    ensures { (before : Lines) → Stands draft.old before → Adds number before draft.new (line_in before (line_tokens line.now)) result }
+/// One more line without its comment, or its first fault: the checks in their order.
+fn add_line(draft: &mut Draft, alloc: Global, number: u32, text: &[u8]) -> Result<(), LineFault>
+    ensures { (before : Lines) → Stands draft.old before → Adds number before draft.new (line_in before (tokens text.now)) result }
 {
-    let text = without_comment(content(line));
     let (label, behind) = match label_in(text) {
         Ok(label) => label,
         Err(kind) => return Err(LineFault::Kind(kind)),
@@ -140,16 +139,18 @@ fn at(line: u32, fault: LineFault) -> AsmError
     }
 }
 
-/// One more line, whose number fits where there is anything on it.
+/// One more line, whose number fits where there is anything on it. A blank line adds nothing.
 fn add_numbered(draft: &mut Draft, alloc: Global, number: u64, line: &[u8]) -> Result<(), AsmError>
     requires { number + length line.now ≤ 2 ^ 32 }
-    ensures { (before : Lines) → Stands draft.old before → AddsLine number before draft.new line.now result }
+    ensures added { (before : Lines) → Stands draft.old before → AddsLine number before draft.new line.now result }
+    ensures blank { line_tokens line.now ≡ [] → IsOk result }
 {
-    if line.is_empty() {
+    let text = without_comment(content(line));
+    if is_blank_text(text) {
         return Ok(());
     }
     let number = number as u32;
-    match add_line(draft, alloc, number, line) {
+    match add_line(draft, alloc, number, text) {
         Ok(()) => Ok(()),
         Err(fault) => Err(at(number, fault)),
     }
@@ -158,9 +159,10 @@ fn add_numbered(draft: &mut Draft, alloc: Global, number: u64, line: &[u8]) -> R
 /// The first pass: what all lines give, or the first fault.
 fn draft_of(alloc: Global, text: &[u8]) -> Result<Draft, AsmError>
     requires { length text.now < 2 ^ 32 }
-    ensures { MatchResult result
+    ensures drafted { MatchResult result
         (λ draft. (all : Lines) × (draft_of 1 no_lines (lines text.now) ≡ Ok all) × Stands draft all)
         (λ error. Refuses error (draft_of 1 no_lines (lines text.now))) }
+    ensures blank { AreBlank (lines text.now) → IsOk result }
 {
     let mut draft = Draft::new(alloc);
     let mut number = 1u64;
@@ -181,6 +183,8 @@ pub fn assemble(alloc: Global, text: &[u8]) -> Result<Bytes, AsmError>
     ensures code { IfOk result (λ code. code_of text.now ≡ Ok code.bytes) }
     // Exactly the first fault; want of memory says nothing of the text.
     ensures fault { IfErr result (λ error. Refuses error (code_of text.now)) }
+    // Where each line is blank or a comment, no memory is wanted.
+    ensures blank { AreBlank (lines text.now) → IsOk result }
 {
     let draft = draft_of(alloc, text)?;
     draft.finish(alloc)

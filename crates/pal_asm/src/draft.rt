@@ -29,7 +29,7 @@ pub(crate) struct Draft {
 }
 
 impl Draft {
-    ghost use Rattle.std.specs.Prelude.{◌≡◌, false, option_map, MatchResult, Ok};
+    ghost use Rattle.std.specs.Prelude.{◌≡◌, [], false, option_map, MatchResult, Ok, IsOk};
     ghost use Rattle.pal_asm.specs.Assembling.{Draft as Lines, no_lines, is_defined, sized_line, code_with};
     ghost use Rattle.pal_asm.specs.Seen.{Refuses};
     ghost use Rattle.pal_asm.specs.SeenStatements.{seen};
@@ -79,9 +79,10 @@ impl Draft {
 
     /// The bytes of the statements, or the first line whose label is not defined.
     pub(crate) fn finish(&self, alloc: Global) -> Result<Bytes, AsmError>
-        ensures { (lines : Lines) → Stands self.now lines → MatchResult result
+        ensures code { (lines : Lines) → Stands self.now lines → MatchResult result
             (λ code. code_with lines.labels lines.placed ≡ Ok code.bytes)
             (λ error. Refuses error (code_with lines.labels lines.placed)) }
+        ensures blank { (lines : Lines) → Stands self.now lines → lines.placed ≡ [] → IsOk result }
     {
         let mut code = Bytes::new(alloc);
         for placed in &self.placed {

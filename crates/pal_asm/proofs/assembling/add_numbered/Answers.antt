@@ -1,21 +1,26 @@
-use Rattle.std.proofs.Common.{◌≤◌, sym, ap, ◌∙◌, arith}
+use Rattle.std.proofs.Common.{◌≡◌, ◌≤◌, ap, ◌∙◌, arith}
 use Rattle.std.specs.Prelude.{None}
+use Rattle.pal_asm.specs.Tokens.{tokens}
 use Rattle.pal_asm.specs.Assembling.{at_line, line_in, line_tokens}
-use Rattle.pal_asm.proofs.AssembleLemmas.{nothing_added}
+use Rattle.pal_asm.proofs.AssembleLemmas.{same_tokens, nothing_added}
 use Rattle.pal_asm.proofs.assembling.add_numbered.Goals as goal
 
-pub returns-then-is_empty : goal.returns-then-is_empty
-returns-then-is_empty c = λ before s.
-    let reached : before.end ≤ 49152 = omega (arith, s.end, c.args.draft.now.reached) in (
+pub returns-then-is_blank_text-clause-added : goal.returns-then-is_blank_text-clause-added
+returns-then-is_blank_text-clause-added c = λ before s.
+    let reached : before.end ≤ 49152 = omega (arith, s.end, c.args.draft.now.reached) in
+    let same = same_tokens c.args.line.now c.without_comment-text.result.now c.content.result.now c.content.ensures c.without_comment-text.ensures in (
       record { label = None; statement = None },
-      nothing_added c.args.number before c.args.line.now (sym c.is_empty.ensures ∙ c.if-is_empty.true) reached,
+      nothing_added c.args.number before c.args.line.now (same ∙ c.if-is_blank_text.ensures) reached,
       record { labels = s.labels; placed = s.placed; end = omega (arith, s.end) },
     )
 
-pub returns-in-Ok : goal.returns-in-Ok
-returns-in-Ok c = λ before s.
+pub returns-in-Ok-clause-added : goal.returns-in-Ok-clause-added
+returns-in-Ok-clause-added c = λ before s.
     let h = c.in-Ok.ensures before s in
-    (h.0, ap (at_line c.args.number) h.1, h.2)
+    let same = same_tokens c.args.line.now c.without_comment-text.result.now c.content.result.now c.content.ensures c.without_comment-text.ensures in
+    (h.0, ap (λ ts. at_line c.args.number (line_in before ts)) same ∙ ap (at_line c.args.number) h.1, h.2)
 
-pub returns-in-Err : goal.returns-in-Err
-returns-in-Err c = λ before s. c.at.ensures (line_in before (line_tokens c.args.line.now)) (c.in-Err.ensures before s)
+pub returns-in-Err-clause-added : goal.returns-in-Err-clause-added
+returns-in-Err-clause-added c = λ before s.
+    let same = same_tokens c.args.line.now c.without_comment-text.result.now c.content.result.now c.content.ensures c.without_comment-text.ensures in
+    rw same (c.at.ensures (line_in before (tokens c.without_comment-text.result.now)) (c.in-Err.ensures before s))
