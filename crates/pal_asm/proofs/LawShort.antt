@@ -1,8 +1,8 @@
 -- A listing of code that fits is shorter than 2^32 bytes: a line has at most 201, and a byte of code at least.
-use Rattle.std.proofs.Common.{◌≡◌, ℕ, zero, suc, ◌+◌, ◌*◌, ◌-◌, ◌/◌, ◌%◌, ◌<◌, ◌≤◌, ◌^◌, Bool, true, false, List, [], ◌∷◌, ◌++◌, length, take, drop, refl, arith, lit≤}
-use Rattle.std.specs.Prelude.{◌==◌, codes, decimal, nat_lt, Some, None, All, Option, if◌then◌else◌}
+use Rattle.std.proofs.Common.{ℕ, zero, suc, ◌+◌, ◌*◌, ◌-◌, ◌/◌, ◌%◌, ◌≤◌, ◌^◌, Bool, true, false, List, [], ◌∷◌, ◌++◌, length, take, drop, arith, lit≤}
+use Rattle.std.specs.Prelude.{◌==◌, codes, decimal, nat_lt, Some, None, Option, if◌then◌else◌}
 use Rattle.std.specs.Fmt.{digits, digits_onto, digit_glyph}
-use Rattle.std.proofs.lemmas.List.{length-append, length-drop, length-take-le}
+use Rattle.std.proofs.lemmas.List.{length-append, length-take-le}
 use Rattle.i386_profile.specs.declared.operands.Reg.{Reg}
 use Rattle.i386_profile.specs.declared.operands.Reg.TheVariants.{Eax}
 use Rattle.i386_profile.specs.declared.operands.ByteReg.{ByteReg}
@@ -21,7 +21,6 @@ use Rattle.pal_asm.specs.declared.names.Branch.TheVariants as branch
 use Rattle.pal_asm.specs.declared.names.Mnemonic.{Mnemonic}
 use Rattle.pal_asm.specs.declared.names.Mnemonic.TheVariants as m
 use Rattle.pal_asm.specs.Names.{register_name, byte_register_name, mnemonic_name}
-use Rattle.pal_asm.specs.Statements.{most_code}
 use Rattle.pal_asm.specs.Listing.{displacement_text, place_text, memory_text, rm_text, dword_text, target_text, text0, text1, text2, ins_text, Met, Decoded, Lone, Meets, offset, text_of}
 use Rattle.pal_asm.specs.Laws.{ListingIsShort}
 

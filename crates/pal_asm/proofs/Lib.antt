@@ -26,3 +26,4 @@ mod LawLines
 mod LawAssembles
 mod LawEachListed
 mod LawShort
+mod LawOffsets

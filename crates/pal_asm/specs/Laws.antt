@@ -1,8 +1,15 @@
 -- What holds of assembling and listing together.
-use Rattle.std.specs.Prelude.{◌≡◌, ℕ, ◌≤◌, ◌<◌, ◌^◌, All, List, length, Ok}
+use Rattle.std.specs.Prelude.{◌≡◌, ℕ, ◌+◌, ◌≤◌, ◌<◌, ◌^◌, All, List, length, Ok}
 use Rattle.pal_asm.specs.Statements.{most_code}
-use Rattle.pal_asm.specs.Assembling.{code_of}
+use Rattle.pal_asm.specs.declared.names.Name.{Name}
+use Rattle.pal_asm.specs.Assembling.{Draft, code_start, no_lines, draft_of, code_with, code_of}
 use Rattle.pal_asm.specs.Listing.{Met, Meets, AreChosen, Lists, text_of}
+
+-- The offset that some lines reach is 32 plus the length of their code: so a label's value, which is the offset that the
+-- lines before it reach, is the offset in the segment of what follows it.
+abbrev pub OffsetsAreLengths : Type 0
+OffsetsAreLengths = (ls : List (List ℕ)) (draft : Draft) (labels : List (Name × ℕ)) (code : List ℕ)
+    → draft_of 1 no_lines ls ≡ Ok draft → code_with labels draft.placed ≡ Ok code → draft.end ≡ code_start + length code
 
 -- Every code has a listing.
 abbrev pub EachIsListed : Type 0

@@ -1,5 +1,5 @@
 -- How clauses see what lines gave.
-use Rattle.std.specs.Prelude.{◌≡◌, ℕ, List, map, Option, Result, Ok, MatchResult}
+use Rattle.std.specs.Prelude.{◌≡◌, ℕ, List, map, Result, Ok, MatchResult}
 use Rattle.std.specs.Ordering.{nat_cmp}
 use Rattle.std.specs.Cmp.Lexicographic.{slice_cmp}
 use Rattle.std.specs.BTreeMap.{BTreeMap, get}
@@ -10,7 +10,6 @@ use Rattle.pal_asm.specs.declared.fault.LineFault.{LineFault}
 use Rattle.pal_asm.specs.declared.names.Name.{Name}
 use Rattle.pal_asm.specs.declared.placed.Placed.{Placed as HeldPlaced}
 use Rattle.pal_asm.specs.declared.draft.Draft.{Draft as HeldDraft}
-use Rattle.pal_asm.specs.Statements.{Statement}
 use Rattle.pal_asm.specs.Assembling.{Line, Placed, Draft, value_of, at_line, with_line, line_in, line_tokens}
 use Rattle.pal_asm.specs.Seen.{Refuses, RefusesLine}
 use Rattle.pal_asm.specs.SeenStatements.{seen}

@@ -101,9 +101,10 @@ fn statement_of(
     alloc: Global,
     word: Option<(Mnemonic, &[u8])>,
 ) -> Result<Option<Statement>, LineFault>
-    ensures { MatchResult result
+    ensures statement { MatchResult result
         (λ statement. statement_in (word_seen word.entry) ≡ Ok (option_map seen_statement statement))
         (λ fault. RefusesLine fault (statement_in (word_seen word.entry))) }
+    ensures nothing { word.entry ≡ None → IsOk result }
 {
     match word {
         None => Ok(None),

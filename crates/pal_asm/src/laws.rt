@@ -1,6 +1,11 @@
 //! What holds of assembling and listing together, as contracts.
 
-ghost use Rattle.pal_asm.specs.Laws.{EachIsListed, OneListing, ListingIsShort, ListingAssembles};
+ghost use Rattle.pal_asm.specs.Laws.{OffsetsAreLengths, EachIsListed, OneListing, ListingIsShort, ListingAssembles};
+
+/// The offset that some lines reach is 32 plus the length of their code, so a label's value is the offset of what follows it.
+pub fn offsets_are_lengths()
+    ensures { OffsetsAreLengths }
+{}
 
 /// Every code has a listing.
 pub fn each_is_listed()

@@ -21,7 +21,9 @@ mod writing;
 
 pub use assembling::assemble;
 pub use fault::{AsmError, AsmFault, AsmKind};
-pub use laws::{each_is_listed, listing_assembles, listing_is_short, one_listing};
+pub use laws::{
+    each_is_listed, listing_assembles, listing_is_short, offsets_are_lengths, one_listing,
+};
 pub use listing::disassemble;
 
 #[cfg(test)]

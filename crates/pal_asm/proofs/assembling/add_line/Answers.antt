@@ -13,7 +13,7 @@ returns c = λ before s.
     let d = sym (c.defines.ensures before s) ∙ c.if-defines.false in
     let e = at_statement before c.args.text.now (c.in-Ok.label.0, tokens c.in-Ok.label.1.now) (word_seen c.in-Ok-word_in.word)
     c.in-Ok.ensures c.in-Ok-word_in.ensures d in
-    let f = e ∙ ap (λ r. r >>= λ statement. sized_line before c.in-Ok.label.0 statement) c.in_ok-statement.ensures in
+    let f = e ∙ ap (λ r. r >>= λ statement. sized_line before c.in-Ok.label.0 statement) c.in_ok-statement.ensures.statement in
     subst (λ r. Adds c.args.number before c.add.new.self r c.add.result) (sym f) (c.add.ensures before s d)
 
 pub returns-in_err-statement : goal.returns-in_err-statement
@@ -23,4 +23,4 @@ returns-in_err-statement c = λ before s.
     c.in-Ok.ensures c.in-Ok-word_in.ensures d in
     let p = err_from_is_err_and c.from_residual.result c.from_residual.ensures.1 in
     rw (p.1, p.2)
-    (refused_first c.in_err-statement.field-0.0 (statement_in (word_seen c.in-Ok-word_in.word)) (λ statement. sized_line before c.in-Ok.label.0 statement) _ e c.in_err-statement.ensures)
+    (refused_first c.in_err-statement.field-0.0 (statement_in (word_seen c.in-Ok-word_in.word)) (λ statement. sized_line before c.in-Ok.label.0 statement) _ e c.in_err-statement.ensures.statement)

@@ -1,7 +1,7 @@
-use Rattle.std.proofs.Common.{◌≡◌, ◌≤◌, ap, ◌∙◌, arith}
+use Rattle.std.proofs.Common.{◌≤◌, ap, ◌∙◌, arith}
 use Rattle.std.specs.Prelude.{None}
 use Rattle.pal_asm.specs.Tokens.{tokens}
-use Rattle.pal_asm.specs.Assembling.{at_line, line_in, line_tokens}
+use Rattle.pal_asm.specs.Assembling.{at_line, line_in}
 use Rattle.pal_asm.proofs.AssembleLemmas.{same_tokens, nothing_added}
 use Rattle.pal_asm.proofs.assembling.add_numbered.Goals as goal
 
