@@ -1,10 +1,9 @@
 -- A line by its steps, and a text by its lines.
-use Rattle.std.proofs.Common.{◌≡◌, ◌≢◌, ℕ, ◌+◌, ◌^◌, ◌<◌, ◌≤◌, true, false, List, [], ◌∷◌, length, sym, ap, ◌∙◌, subst, arith}
-use Rattle.std.specs.Prelude.{Option, Some, None, Result, Ok, Err, MatchOption, MatchResult, IfOk, IfErr}
+use Rattle.std.proofs.Common.{◌≡◌, ◌≢◌, Bool, refl, ℕ, ◌+◌, ◌^◌, ◌<◌, ◌≤◌, true, false, List, [], ◌∷◌, length, sym, ap, ◌∙◌, subst, arith}
+use Rattle.std.specs.Prelude.{Option, Some, None, Result, Ok, Err, MatchOption, MatchResult, IfOk, IfErr, IsOk}
 use Rattle.flk_base.specs.Buffer.{Buffer}
 use Rattle.flk_base.specs.Checks.{◌>>=◌}
 use Rattle.pal_asm.specs.declared.fault.AsmError.{AsmError}
-use Rattle.pal_asm.specs.declared.fault.AsmError.TheVariants.{At, NoMemory}
 use Rattle.pal_asm.specs.declared.fault.AsmFault.{AsmFault}
 use Rattle.pal_asm.specs.declared.fault.AsmKind.{AsmKind}
 use Rattle.pal_asm.specs.declared.fault.AsmKind.TheVariants as kind
@@ -13,9 +12,10 @@ use Rattle.pal_asm.specs.declared.fault.LineFault.TheVariants as fault
 use Rattle.pal_asm.specs.declared.names.Name.{Name}
 use Rattle.pal_asm.specs.declared.names.Mnemonic.{Mnemonic}
 use Rattle.pal_asm.specs.Tokens.{Token, tokens}
+use Rattle.pal_asm.specs.Statements.{Statement}
 use Rattle.pal_asm.specs.Lines.{lines, content, without_comment}
-use Rattle.pal_asm.specs.Assembling.{Line, Draft, AreBlank, unless, is_defined, sized_line, label_in, word_in, statement_in, line_in, with_line, at_line, line_tokens, draft_of}
-use Rattle.pal_asm.specs.Seen.{Refuses, RefusesLine}
+use Rattle.pal_asm.specs.Assembling.{Line, Draft, AreBlank, line_alone, or_others, first_tokens, unless, is_defined, sized_line, label_in, word_in, statement_in, line_in, with_line, at_line, line_tokens, draft_of}
+use Rattle.pal_asm.specs.Seen.{Refuses, RefusesLine, RefusesAlone}
 use Rattle.pal_asm.proofs.DraftLemmas.{fits}
 use denote.Ref.{Bor}
 
@@ -35,23 +35,6 @@ at_label : (before : Draft) (text : List ℕ) (answer : Result (Option Name × L
     → label_in (tokens text) ≡ answer → line_in before (tokens text) ≡ (answer >>= after_label before)
 at_label before text answer el = ap (λ r. r >>= after_label before) el
 
--- the name before a colon is none
-pub label_fault : (before : Draft) (text : List ℕ) (k : AsmKind) → label_in (tokens text) ≡ Err k → line_in before (tokens text) ≡ Err k
-label_fault before text k el = at_label before text (Err k) el
-
--- the word is none
-pub word_fault : (before : Draft) (text : List ℕ) (label : Option Name × List Token) (k : AsmKind)
-    → label_in (tokens text) ≡ Ok label → word_in label.1 ≡ Err k → line_in before (tokens text) ≡ Err k
-word_fault before text label k el e = at_label before text (Ok label) el ∙ ap (λ r. r >>= after_word before label.0) e
-
--- the label has been defined
-pub label_twice : (before : Draft) (text : List ℕ) (label : Option Name × List Token) (word : Option (Mnemonic × List Token))
-    → label_in (tokens text) ≡ Ok label → word_in label.1 ≡ Ok word → is_defined before.labels label.0 ≡ true
-    → line_in before (tokens text) ≡ Err kind.Twice
-label_twice before text label word el e d =
-    at_label before text (Ok label) el ∙ ap (λ r. r >>= after_word before label.0) e
-    ∙ ap (λ b. unless b kind.Twice label.0 >>= λ name. statement_in word >>= λ statement. sized_line before name statement) d
-
 -- the statement decides
 pub at_statement : (before : Draft) (text : List ℕ) (label : Option Name × List Token) (word : Option (Mnemonic × List Token))
     → label_in (tokens text) ≡ Ok label → word_in label.1 ≡ Ok word → is_defined before.labels label.0 ≡ false
@@ -65,6 +48,57 @@ pub refused_first : {A B : Type 0} (f : LineFault) (first : Result A AsmKind) (n
 refused_first (fault.Kind k) first next whole e h = e ∙ ap (λ r. r >>= next) h
 refused_first fault.NoMemory first next whole e h = tt
 
+-- ---- what is wrong with a line by itself
+
+-- want of memory says nothing of a line behind others
+pub of_line : {A : Type 0} (f : LineFault) (answer : Result A AsmKind) → RefusesAlone f answer → RefusesLine f answer
+of_line (fault.Kind k) answer h = h
+of_line fault.NoMemory answer h = tt
+
+pub alone_is : (text : List ℕ) (label : Option Name × List Token) (word : Option (Mnemonic × List Token))
+    → label_in (tokens text) ≡ Ok label → word_in label.1 ≡ Ok word → line_alone (tokens text) ≡ statement_in word
+alone_is text label word el ew = ap (λ r. r >>= λ l. word_in l.1 >>= λ w. statement_in w) el ∙ ap (λ r. r >>= λ w. statement_in w) ew
+
+pub wanted : (f : LineFault) (answer : Result (Option Statement) AsmKind) → RefusesAlone f answer → f ≡ fault.NoMemory → IsOk answer
+wanted (fault.Kind k) answer h e = cc
+wanted fault.NoMemory answer h e = h
+
+pub if_wanted : {T : Type 0} (r : Result T LineFault) (P : Type 0) → P → IfErr r (λ f. f ≡ fault.NoMemory → P)
+if_wanted (Ok x) P p = tt
+if_wanted (Err f) P p = λ e. p
+
+good_statement : (n : ℕ) (before : Draft) (name : Option Name) (twice : Bool) (answer : Result (Option Statement) AsmKind) (l : Line)
+    → at_line n (unless twice kind.Twice name >>= λ label. answer >>= λ statement. sized_line before label statement) ≡ Ok l → IsOk answer
+good_statement n before name true answer l e = cc
+good_statement n before name false (Err k) l e = cc
+good_statement n before name false (Ok s) l e = refl
+
+good_word : (n : ℕ) (before : Draft) (name : Option Name) (answer : Result (Option (Mnemonic × List Token)) AsmKind) (l : Line)
+    → at_line n (answer >>= λ word. after_word before name word) ≡ Ok l → IsOk (answer >>= λ word. statement_in word)
+good_word n before name (Err k) l e = cc
+good_word n before name (Ok word) l e = good_statement n before name (is_defined before.labels name) (statement_in word) l e
+
+good_label : (n : ℕ) (before : Draft) (answer : Result (Option Name × List Token) AsmKind) (l : Line)
+    → at_line n (answer >>= after_label before) ≡ Ok l → IsOk (answer >>= λ label. word_in label.1 >>= λ word. statement_in word)
+good_label n before (Err k) l e = cc
+good_label n before (Ok label) l e = good_word n before label.0 (word_in label.1) l e
+
+-- a line without a fault has none by itself
+good_line : (n : ℕ) (before : Draft) (ts : List Token) (l : Line) → at_line n (line_in before ts) ≡ Ok l → IsOk (line_alone ts)
+good_line n before ts l e = good_label n before (label_in ts) l e
+
+-- nothing is wrong with the first line that is not blank, or there is none
+abbrev pub BeginsWell : List (List ℕ) → Type 0
+BeginsWell ls = IsOk (line_alone (first_tokens ls))
+
+well_by : (ts others : List Token) (W : Type 0) → (IsOk (line_alone (or_others ts others)) → W) → (ts ≢ [] → IsOk (line_alone ts)) → IsOk (line_alone others) → W
+well_by [] others W h k o = h o
+well_by (t ∷ ts) others W h k o = h (k (λ e. cc))
+
+begins_by : (ts others : List Token) (W : Type 0) → (IsOk (line_alone (or_others ts others)) → W) → ts ≢ [] → IsOk (line_alone ts) → W
+begins_by [] others W h k o = absurd (k refl)
+begins_by (t ∷ ts) others W h k o = h o
+
 -- ---- lines with nothing on them
 
 abbrev nothing : Line
@@ -72,11 +106,6 @@ nothing = record { label = None; statement = None }
 
 pub nothing_added : (n : ℕ) (before : Draft) (line : List ℕ) → line_tokens line ≡ [] → before.end ≤ 49152 → at_line n (line_in before (line_tokens line)) ≡ Ok nothing
 nothing_added n before line e h = ap (λ ts. at_line n (line_in before ts)) e ∙ ap (at_line n) (fits before None None (omega arith))
-
--- a line that has tokens has bytes
-pub has_bytes : (line text : List ℕ) → text ≡ without_comment (content line) → tokens text ≢ [] → 1 ≤ length line
-has_bytes [] text e h = absurd (h (ap tokens e))
-has_bytes (c ∷ cs) text e h = omega arith
 
 -- blank lines place no statement
 pub none_placed : (n : ℕ) (before all : Draft) (ls : List (List ℕ)) → before.end ≤ 49152 → AreBlank ls → draft_of n before ls ≡ Ok all → all.placed ≡ before.placed
@@ -86,10 +115,30 @@ none_placed n before all (line ∷ rest) h b e =
     ap (λ r. r >>= λ l. draft_of (n + 1) (with_line n before l) rest) (nothing_added n before line b.0 h) in
     none_placed (n + 1) (with_line n before nothing) all rest (omega (arith, h)) b.1 (sym first ∙ e)
 
--- what is left of blank lines is blank
+-- what is left of lines
 abbrev pub lines_left : Option (Bor (List ℕ)) → List (List ℕ)
 lines_left None = []
 lines_left (Some text) = lines text.now
+
+cut_at : (behind : Option (Bor (List ℕ))) (text line : List ℕ) → MatchOption behind (lines text ≡ line ∷ []) (λ r. lines text ≡ line ∷ lines r.now) → lines text ≡ line ∷ lines_left behind
+cut_at None text line m = m
+cut_at (Some r) text line m = m
+
+-- the first line that is not blank is among those left, or has been read
+pub still_well : (n : ℕ) (before : Draft) (rest behind : Option (Bor (List ℕ))) (text : Bor (List ℕ)) (line : List ℕ) (l : Line) (W : Type 0) → rest ≡ Some text
+    → MatchOption behind (lines text.now ≡ line ∷ []) (λ r. lines text.now ≡ line ∷ lines r.now) → at_line n (line_in before (line_tokens line)) ≡ Ok l
+    → (BeginsWell (lines_left rest) → W) → BeginsWell (lines_left behind) → W
+still_well n before rest behind text line l W e m a h b =
+    let cut : lines_left rest ≡ line ∷ lines_left behind = ap lines_left e ∙ cut_at behind text.now line m in
+    well_by (line_tokens line) (first_tokens (lines_left behind)) W (subst (λ ls. BeginsWell ls → W) cut h) (λ t. good_line n before (line_tokens line) l a) b
+
+-- what is wrong with the line that is read now
+pub begins_here : (rest behind : Option (Bor (List ℕ))) (text : Bor (List ℕ)) (line : List ℕ) (W : Type 0) → rest ≡ Some text
+    → MatchOption behind (lines text.now ≡ line ∷ []) (λ r. lines text.now ≡ line ∷ lines r.now)
+    → (BeginsWell (lines_left rest) → W) → line_tokens line ≢ [] → IsOk (line_alone (line_tokens line)) → W
+begins_here rest behind text line W e m h k o =
+    let cut : lines_left rest ≡ line ∷ lines_left behind = ap lines_left e ∙ cut_at behind text.now line m in
+    begins_by (line_tokens line) (first_tokens (lines_left behind)) W (subst (λ ls. BeginsWell ls → W) cut h) k o
 
 pub blank_first : (rest behind : Option (Bor (List ℕ))) (text : Bor (List ℕ)) (line : List ℕ) → rest ≡ Some text
     → MatchOption behind (lines text.now ≡ line ∷ []) (λ r. lines text.now ≡ line ∷ lines r.now) → AreBlank (lines_left rest) → (line_tokens line ≡ []) × AreBlank (lines_left behind)
@@ -125,27 +174,10 @@ pub more_lines : (n : ℕ) (before : Draft) (rest behind : Option (Bor (List ℕ
 more_lines n before rest behind text line l whole h e m k =
     sym (step n before text.now line behind m ∙ ap (λ r. r >>= λ x. continued (n + 1) (with_line n before x) behind) k) ∙ sym (ap (continued n before) e) ∙ h
 
--- a fault in a line
-pub refused_line : (n : ℕ) (before : Draft) (rest behind : Option (Bor (List ℕ))) (text : Bor (List ℕ)) (line : List ℕ) (error : AsmError) (whole : Result Draft AsmFault)
-    → continued n before rest ≡ whole → rest ≡ Some text → MatchOption behind (lines text.now ≡ line ∷ []) (λ r. lines text.now ≡ line ∷ lines r.now)
-    → Refuses error (at_line n (line_in before (line_tokens line))) → Refuses error whole
-refused_line n before rest behind text line (At f) whole h e m k =
-    sym h ∙ ap (continued n before) e ∙ step n before text.now line behind m ∙ ap (λ r. r >>= λ x. continued (n + 1) (with_line n before x) behind) k
-refused_line n before rest behind text line NoMemory whole h e m k = tt
-
 pub next_number : (n : ℕ) (rest behind : Option (Bor (List ℕ))) (text : Bor (List ℕ)) (line : List ℕ) → IsNumbered n rest → rest ≡ Some text
     → MatchOption behind (length line ≡ length text.now) (λ r. length line + length r.now < length text.now) → IsNumbered (n + 1) behind
 next_number n rest None text line h e m = tt
 next_number n rest (Some r) text line h e m =
-    let here : n + length text.now ≤ 2 ^ 32 = subst (IsNumbered n) e h in
-    omega arith
-
-pub this_number : (n : ℕ) (rest behind : Option (Bor (List ℕ))) (text : Bor (List ℕ)) (line : List ℕ) → IsNumbered n rest → rest ≡ Some text
-    → MatchOption behind (length line ≡ length text.now) (λ r. length line + length r.now < length text.now) → n + length line ≤ 2 ^ 32
-this_number n rest None text line h e m =
-    let here : n + length text.now ≤ 2 ^ 32 = subst (IsNumbered n) e h in
-    omega arith
-this_number n rest (Some r) text line h e m =
     let here : n + length text.now ≤ 2 ^ 32 = subst (IsNumbered n) e h in
     omega arith
 

@@ -1,6 +1,6 @@
 -- The bytes between commas, one after another.
 use Rattle.std.proofs.Common.{◌≡◌, ℕ, ◌+◌, ◌≤◌, ◌<◌, length, arith, Bool, true, false, List, [], ◌∷◌, ◌++◌, refl, sym, ap, ◌∙◌, subst, append_assoc, append-nil, ℤ, pos, negsuc}
-use Rattle.std.specs.Prelude.{◌&&◌, Option, Some, None, option_map, option_and_then, MatchOption, IfSome, Result, Ok, Err, if◌then◌else◌}
+use Rattle.std.specs.Prelude.{◌&&◌, Option, Some, None, option_map, option_and_then, MatchOption, IfSome, Result, Ok, Err, IsOk, if◌then◌else◌}
 use Rattle.std.specs.List.{list_all, slice_split}
 use Rattle.std.proofs.lemmas.List.Splits.{length-slice_split}
 use Rattle.flk_base.specs.Checks.{◌>>=◌}
@@ -163,6 +163,26 @@ pub byte_statement : (ts : List Token) → statement_in (Some (m.Byte, ts)) ≡ 
 byte_statement [] = refl
 byte_statement (t ∷ ts) = pieces_by (slice_split is_comma (t ∷ ts)) (omega (arith, length-slice_split is_comma (t ∷ ts)))
 
+-- a piece that is a number
+step_from : (text : List ℕ) (ok : Bool) (out : List ℕ) (rest behind : Option (Bor (List ℕ))) (t : Bor (List ℕ)) (p : List ℕ) (byte : ByteNumber)
+    → bytes_from (rest_of rest) ok out ≡ bytes_from (pieces text) true [] → rest ≡ Some t
+    → MatchOption behind (pieces t.now ≡ tokens p ∷ []) (λ r. pieces t.now ≡ tokens p ∷ pieces r.now) → Some byte ≡ option_and_then operand_byte (operand_of (tokens p))
+    → step (bytes_from (rest_of behind)) ok out (Some byte) ≡ bytes_from (pieces text) true []
+step_from text ok out rest behind t p byte h e m n =
+    ap (step (bytes_from (rest_of behind)) ok out) n ∙ sym (ap (λ r. bytes_from (rest_of r) ok out) e ∙ ap (λ ps. bytes_from ps ok out) (cut_of behind t.now p m)) ∙ h
+
+-- the bytes so far are those kept, where there was room
+abbrev pub Kept : List ℕ → Bool → List ℕ → Type 0
+Kept out room bytes = room ≡ true → out ≡ bytes
+
+pub one_within : (text : List ℕ) (ok : Bool) (out old new : List ℕ) (was is : Bool) (rest behind : Option (Bor (List ℕ))) (t : Bor (List ℕ)) (p : List ℕ) (number : ByteNumber) (n : ℕ)
+    → bytes_from (rest_of rest) ok out ≡ bytes_from (pieces text) true [] → Kept out was old → rest ≡ Some t
+    → MatchOption behind (pieces t.now ≡ tokens p ∷ []) (λ r. pieces t.now ≡ tokens p ∷ pieces r.now) → Some number ≡ option_and_then operand_byte (operand_of (tokens p))
+    → number ≡ Within n → (is ≡ true → (was ≡ true) × (new ≡ old ++ n ∷ []))
+    → (out' : List ℕ) × (bytes_from (rest_of behind) ok out' ≡ bytes_from (pieces text) true []) × Kept out' is new
+one_within text ok out old new was is rest behind t p number n h k e m f w g =
+    (out ++ n ∷ [], step_from text ok out rest behind t p (Within n) h e m (ap Some (sym w) ∙ f), λ r. ap (λ xs. xs ++ n ∷ []) (k (g r).0) ∙ sym (g r).1)
+
 -- a piece that is no number
 pub failed : (text : List ℕ) (ok : Bool) (out : List ℕ) (rest behind : Option (Bor (List ℕ))) (t : Bor (List ℕ)) (p : List ℕ)
     → bytes_from (rest_of rest) ok out ≡ bytes_from (pieces text) true [] → rest ≡ Some t
@@ -180,6 +200,14 @@ done text ok out rest h e = byte_statement (tokens text) ∙ ap told (sym h ∙ 
 pub done_in_range : (text : List ℕ) (ok : Bool) (out : List ℕ) (rest : Option (Bor (List ℕ))) → bytes_from (rest_of rest) ok out ≡ bytes_from (pieces text) true [] → rest ≡ None → ok ≡ true
     → statement_in (Some (m.Byte, tokens text)) ≡ Ok (Some (Bytes out))
 done_in_range text ok out rest h e b = done text ok out rest h e ∙ ap (λ x. told (if x then Ok out else Err kind.Range)) b
+
+pub done_kept : (text : List ℕ) (ok : Bool) (out bytes : List ℕ) (room : Bool) (rest : Option (Bor (List ℕ))) → bytes_from (rest_of rest) ok out ≡ bytes_from (pieces text) true [] → Kept out room bytes
+    → rest ≡ None → ok ≡ true → room ≡ true → statement_in (Some (m.Byte, tokens text)) ≡ Ok (Some (Bytes bytes))
+done_kept text ok out bytes room rest h k e b r = done_in_range text ok out rest h e b ∙ ap (λ xs. Ok (Some (Bytes xs))) (k r)
+
+pub done_lost : (text : List ℕ) (ok : Bool) (out : List ℕ) (rest : Option (Bor (List ℕ))) → bytes_from (rest_of rest) ok out ≡ bytes_from (pieces text) true [] → rest ≡ None → ok ≡ true
+    → IsOk (statement_in (Some (m.Byte, tokens text)))
+done_lost text ok out rest h e b = rw (done_in_range text ok out rest h e b) refl
 
 pub done_outside : (text : List ℕ) (ok : Bool) (out : List ℕ) (rest : Option (Bor (List ℕ))) → bytes_from (rest_of rest) ok out ≡ bytes_from (pieces text) true [] → rest ≡ None → ok ≡ false
     → statement_in (Some (m.Byte, tokens text)) ≡ Err kind.Range

@@ -1,8 +1,8 @@
 -- A line with which the code is not too long, and the second pass, a statement at a time.
-use Rattle.std.proofs.Common.{◌≡◌, ◌≢◌, ℕ, ◌+◌, ◌<◌, ◌≤◌, List, [], ◌∷◌, ◌++◌, length, get_or, drop, map, refl, sym, ap, ◌∙◌, append_assoc, append-nil, false, arith}
+use Rattle.std.proofs.Common.{◌≡◌, ◌≢◌, ℕ, ◌+◌, ◌<◌, ◌≤◌, List, [], ◌∷◌, ◌++◌, length, get_or, drop, map, refl, sym, ap, ◌∙◌, append_assoc, false, arith}
 use Rattle.std.specs.Prelude.{Option, Result, Ok, Err, nat_lt}
 use Rattle.std.proofs.lemmas.Bool.Decides.{nat_tests}
-use Rattle.std.proofs.lemmas.List.{drop_more, drop_all, drop-map}
+use Rattle.std.proofs.lemmas.List.{drop_more, drop-map}
 use Rattle.flk_base.specs.Checks.{◌>>=◌}
 use Rattle.pal_asm.specs.declared.fault.AsmFault.{AsmFault}
 use Rattle.pal_asm.specs.declared.fault.AsmError.{AsmError}
@@ -64,9 +64,3 @@ pub refused : (items : List Held) (placed : List Placed) (labels : List (Name ×
     → code_with labels placed ≡ behind old (code_with labels (drop i placed)) → Refuses error (code_with labels placed)
 refused items placed labels i p old (At fault) e l h b ih = no_code items placed labels i p old fault e l h b ih
 refused items placed labels i p old NoMemory e l h b ih = tt
-
-pub whole_code : (items : List Held) (placed : List Placed) (labels : List (Name × ℕ)) (i : ℕ) (code : List ℕ)
-    → map placed_seen items ≡ placed → length items ≤ i → code_with labels placed ≡ behind code (code_with labels (drop i placed)) → code_with labels placed ≡ Ok code
-whole_code items placed labels i code e l ih =
-    let none : drop i placed ≡ [] = ap (drop i) (sym e) ∙ drop-map placed_seen i items ∙ ap (map placed_seen) (drop_all i items l) in
-    ih ∙ ap (λ ps. behind code (code_with labels ps)) none ∙ ap Ok (append-nil code)

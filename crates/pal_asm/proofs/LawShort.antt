@@ -144,9 +144,6 @@ line_short behind Nop = none m.Nop
 
 -- ---- a listing
 
-more_short : (line rest : List ℕ) (k : ℕ) → length line ≤ 200 → length rest ≤ 201 * k → length (line ++ codes "\n" ++ rest) ≤ 201 * (k + 1)
-more_short line rest k h r = omega (arith, length-append (line ++ codes "\n") rest, length-append line (codes "\n"))
-
 text_short : (met : List Met) (at : ℕ) (code : List ℕ) → Meets at met code → length (text_of at met) + 201 * at ≤ 201 * length code
 text_short [] at code g = omega (arith, g)
 text_short (Decoded ins n ∷ met) at code g =

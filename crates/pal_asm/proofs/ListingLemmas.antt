@@ -8,9 +8,6 @@ use Rattle.pal_asm.specs.Listing.{Met, Decoded, Lone, Meets, text_of, ins_text, 
 abbrev pub Front : ℕ → List ℕ → List ℕ → Type 0
 Front at code text = (rest : List Met) → Meets at rest code → (met : List Met) × Meets 0 met code × (text_of 0 met ≡ text ++ text_of at rest)
 
-pub nothing_yet : (code : List ℕ) → Front 0 code []
-nothing_yet code rest h = (rest, h, refl)
-
 more_text : (old line more new all : List ℕ) → new ≡ old ++ line ++ codes "\n" → all ≡ old ++ (line ++ codes "\n" ++ more) → all ≡ new ++ more
 more_text old line more new all en ea = ea ∙ simp append_assoc (sym (ap (λ xs. xs ++ more) en ∙ simp append_assoc))
 

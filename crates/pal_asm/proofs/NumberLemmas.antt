@@ -50,9 +50,5 @@ step radix value i d next xs h l e n =
     let twice : read_as next ≡ read_as (value * radix + d) = omega (arith, n) in
     same_read radix next (value * radix + d) (drop (i + 1) xs) h twice ∙ sym whole
 
-pub stop : (radix value i : ℕ) (xs : List ℕ) → i < length xs → None ≡ digit_in radix (get_or xs i 0)
-    → option_map read_as (digits_value radix value (drop i xs)) ≡ None
-stop radix value i xs l e = rw (drop_more xs i 0 l, ← e) refl
-
 pub at_end : (radix value i : ℕ) (xs : List ℕ) → length xs ≤ i → value ≤ 2 ^ 33 → option_map read_as (digits_value radix value (drop i xs)) ≡ Some value
 at_end radix value i xs l v = rw (drop_all i xs l) (ap Some (small value v))

@@ -51,6 +51,10 @@ statement_in (Some (m, rest)) =
     or_fault kind.Operand (statement_of m os) >>= λ s.
     if list_all (is_in_range (least_number m) (most_number m)) os then Ok (Some s) else Err kind.Range
 
+-- what is wrong with a line by itself, whatever stands before it
+abbrev pub line_alone : List Token → Result (Option Statement) AsmKind
+line_alone ts = label_in ts >>= λ label. word_in label.1 >>= λ word. statement_in word
+
 -- ---- lines before a line
 
 -- a statement with the number of its line and its offset
@@ -134,6 +138,16 @@ line_tokens line = tokens (without_comment (content line))
 abbrev pub AreBlank : List (List ℕ) → Type 0
 AreBlank [] = Unit {0}
 AreBlank (line ∷ rest) = (line_tokens line ≡ []) × AreBlank rest
+
+-- these tokens, or the others where there are none
+abbrev pub or_others : List Token → List Token → List Token
+or_others [] others = others
+or_others (t ∷ ts) others = t ∷ ts
+
+-- the tokens of the first line that is not blank
+abbrev pub first_tokens : List (List ℕ) → List Token
+first_tokens [] = []
+first_tokens (line ∷ rest) = or_others (line_tokens line) (first_tokens rest)
 
 -- The first pass, from line n on: the first line with a fault decides.
 abbrev pub draft_of : ℕ → Draft → List (List ℕ) → Result Draft AsmFault

@@ -1,5 +1,5 @@
 -- How clauses see what the code holds, and what its calls answer.
-use Rattle.std.specs.Prelude.{◌≡◌, ℕ, ◌^◌, min, Result, Err, ℤ, pos, negsuc, ◌-◌}
+use Rattle.std.specs.Prelude.{◌≡◌, ℕ, ◌^◌, min, Result, Err, IsOk, ℤ, pos, negsuc, ◌-◌}
 use Rattle.pal_asm.specs.declared.fault.AsmFault.{AsmFault}
 use Rattle.pal_asm.specs.declared.fault.AsmError.{AsmError}
 use Rattle.pal_asm.specs.declared.fault.AsmError.TheVariants.{At, NoMemory}
@@ -19,6 +19,11 @@ Refuses NoMemory answer = Unit {0}
 abbrev pub RefusesLine : {A : Type 0} → LineFault → Result A AsmKind → Type 0
 RefusesLine (line.Kind kind) answer = answer ≡ Err kind
 RefusesLine line.NoMemory answer = Unit {0}
+
+-- the same of what a line says by itself: want of memory comes only where that has no fault
+abbrev pub RefusesAlone : {A : Type 0} → LineFault → Result A AsmKind → Type 0
+RefusesAlone (line.Kind kind) answer = answer ≡ Err kind
+RefusesAlone line.NoMemory answer = IsOk answer
 
 -- a number as the code reads it: all that is larger counts as 2 ^ 33
 abbrev pub read_as : ℕ → ℕ

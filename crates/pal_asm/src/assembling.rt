@@ -5,8 +5,8 @@ ghost use Rattle.pal_asm.specs.declared.fault.AsmKind.{AsmKind as KindView};
 ghost use Rattle.pal_asm.specs.Tokens.{Colon, tokens};
 ghost use Rattle.pal_asm.specs.SeenTokens.{seen, NoColonFirst};
 ghost use Rattle.pal_asm.specs.Lines.{lines};
-ghost use Rattle.pal_asm.specs.Assembling.{Draft as Lines, Line, at_line, label_in, word_in, statement_in, line_in, line_tokens, no_lines, AreBlank, draft_of, code_of};
-ghost use Rattle.pal_asm.specs.Seen.{Refuses, RefusesLine};
+ghost use Rattle.pal_asm.specs.Assembling.{Draft as Lines, Line, at_line, label_in, word_in, statement_in, line_in, line_tokens, no_lines, AreBlank, line_alone, first_tokens, draft_of, code_of};
+ghost use Rattle.pal_asm.specs.Seen.{Refuses, RefusesLine, RefusesAlone};
 ghost use Rattle.pal_asm.specs.SeenDraft.{Stands, Adds, AddsLine};
 ghost use Rattle.pal_asm.specs.SeenStatements.{seen as seen_statement, word_seen};
 
@@ -103,7 +103,7 @@ fn statement_of(
 ) -> Result<Option<Statement>, LineFault>
     ensures statement { MatchResult result
         (λ statement. statement_in (word_seen word.entry) ≡ Ok (option_map seen_statement statement))
-        (λ fault. RefusesLine fault (statement_in (word_seen word.entry))) }
+        (λ fault. RefusesAlone fault (statement_in (word_seen word.entry))) }
     ensures nothing { word.entry ≡ None → IsOk result }
 {
     match word {
@@ -114,7 +114,8 @@ fn statement_of(
 
 /// One more line without its comment, or its first fault: the checks in their order.
 fn add_line(draft: &mut Draft, alloc: Global, number: u32, text: &[u8]) -> Result<(), LineFault>
-    ensures { (before : Lines) → Stands draft.old before → Adds number before draft.new (line_in before (tokens text.now)) result }
+    ensures added { (before : Lines) → Stands draft.old before → Adds number before draft.new (line_in before (tokens text.now)) result }
+    ensures alone { IfErr result (λ fault. fault ≡ LineFault.NoMemory → IsOk (line_alone (tokens text.now))) }
 {
     let (label, behind) = match label_in(text) {
         Ok(label) => label,
@@ -132,7 +133,8 @@ fn add_line(draft: &mut Draft, alloc: Global, number: u32, text: &[u8]) -> Resul
 }
 
 fn at(line: u32, fault: LineFault) -> AsmError
-    ensures { (answer : Result Line KindView) → RefusesLine fault answer → Refuses result (at_line line answer) }
+    ensures fault { (answer : Result Line KindView) → RefusesLine fault answer → Refuses result (at_line line answer) }
+    ensures want { result ≡ AsmError.NoMemory → fault ≡ LineFault.NoMemory }
 {
     match fault {
         LineFault::Kind(kind) => AsmError::At(AsmFault { line, kind }),
@@ -145,6 +147,7 @@ fn add_numbered(draft: &mut Draft, alloc: Global, number: u64, line: &[u8]) -> R
     requires { number + length line.now ≤ 2 ^ 32 }
     ensures added { (before : Lines) → Stands draft.old before → AddsLine number before draft.new line.now result }
     ensures blank { line_tokens line.now ≡ [] → IsOk result }
+    ensures alone { IfErr result (λ error. error ≡ AsmError.NoMemory → IsOk (line_alone (line_tokens line.now))) }
 {
     let text = without_comment(content(line));
     if is_blank_text(text) {
@@ -164,6 +167,9 @@ fn draft_of(alloc: Global, text: &[u8]) -> Result<Draft, AsmError>
         (λ draft. (all : Lines) × (draft_of 1 no_lines (lines text.now) ≡ Ok all) × Stands draft all)
         (λ error. Refuses error (draft_of 1 no_lines (lines text.now))) }
     ensures blank { AreBlank (lines text.now) → IsOk result }
+    ensures first { MatchResult result
+        (λ _. IsOk (line_alone (first_tokens (lines text.now))))
+        (λ error. error ≡ AsmError.NoMemory → IsOk (line_alone (first_tokens (lines text.now)))) }
 {
     let mut draft = Draft::new(alloc);
     let mut number = 1u64;
@@ -186,6 +192,8 @@ pub fn assemble(alloc: Global, text: &[u8]) -> Result<Bytes, AsmError>
     ensures fault { IfErr result (λ error. Refuses error (code_of text.now)) }
     // Where each line is blank or a comment, no memory is wanted.
     ensures blank { AreBlank (lines text.now) → IsOk result }
+    // Want of memory never hides what is wrong with the first line that is not blank.
+    ensures first { IfErr result (λ error. error ≡ AsmError.NoMemory → IsOk (line_alone (first_tokens (lines text.now)))) }
 {
     let draft = draft_of(alloc, text)?;
     draft.finish(alloc)

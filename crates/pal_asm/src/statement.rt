@@ -1,9 +1,9 @@
 //! What a statement stands for, by its word and its operands.
 
-ghost use Rattle.std.specs.Prelude.{◌≡◌, ◌≢◌, [], ◌∷◌, map, option_map, option_and_then, MatchOption, MatchResult};
+ghost use Rattle.std.specs.Prelude.{◌≡◌, ◌≢◌, true, [], ◌∷◌, ◌++◌, map, option_map, option_and_then, MatchOption, MatchResult};
 ghost use Rattle.pal_asm.specs.Statements.{memory, mov_of, movzx_of, lea_of, alu_of, test_of, push_of, shift_of, imul_of, unary_of, branch_of, int_of, long_of, zero_of, statement_of, least_number, most_number};
 ghost use Rattle.pal_asm.specs.Statements.{Whole, Bytes as Spelled};
-ghost use Rattle.pal_asm.specs.Seen.{operand_as, RefusesLine};
+ghost use Rattle.pal_asm.specs.Seen.{operand_as, RefusesAlone};
 ghost use Rattle.pal_asm.specs.SeenStatements.{seen, listed, pieces, AreMore, number_byte, operand_byte};
 ghost use Rattle.pal_asm.specs.Tokens.{tokens};
 ghost use Rattle.pal_asm.specs.Operands.{all_operands, operand_of, operands_of, is_in_range};
@@ -404,14 +404,23 @@ fn byte_of(piece: &[u8]) -> Option<ByteNumber>
     }
 }
 
-/// One number or more, between commas. A piece that is none comes before a number outside its range.
+/// One more byte behind those before, where there was room for them and is room for it.
+fn keep(bytes: &mut Bytes, is_room: bool, byte: u8) -> bool
+    ensures { result ≡ true → (is_room ≡ true) × (bytes.new.bytes ≡ bytes.old.bytes ++ byte ∷ []) }
+{
+    is_room && bytes.push_all(&[byte]).is_ok()
+}
+
+/// One number or more, between commas. A piece that is none comes before a number outside its range, and both before want
+/// of memory.
 fn bytes_of(alloc: Global, text: &[u8]) -> Result<Bytes, LineFault>
     ensures { MatchResult result
         (λ bytes. statement_in (Some (Mnemonic.Byte, tokens text.now)) ≡ Ok (Some (Spelled bytes.bytes)))
-        (λ fault. RefusesLine fault (statement_in (Some (Mnemonic.Byte, tokens text.now)))) }
+        (λ fault. RefusesAlone fault (statement_in (Some (Mnemonic.Byte, tokens text.now)))) }
 {
     let mut bytes = Bytes::new(alloc);
     let mut are_in_range = true;
+    let mut is_room = true;
     let mut rest = Some(text);
     'pieces: while let Some(pieces) = rest {
         let (piece, behind) = split_comma(pieces);
@@ -419,15 +428,17 @@ fn bytes_of(alloc: Global, text: &[u8]) -> Result<Bytes, LineFault>
             return Err(LineFault::Kind(AsmKind::Operand));
         };
         match byte {
-            ByteNumber::Within(byte) => bytes.push_all(&[byte]).map_err(|_| LineFault::NoMemory)?,
+            ByteNumber::Within(byte) => is_room = keep(&mut bytes, is_room, byte),
             ByteNumber::Outside => are_in_range = false,
         }
         rest = behind;
     }
-    if are_in_range {
+    if !are_in_range {
+        Err(LineFault::Kind(AsmKind::Range))
+    } else if is_room {
         Ok(bytes)
     } else {
-        Err(LineFault::Kind(AsmKind::Range))
+        Err(LineFault::NoMemory)
     }
 }
 
@@ -459,7 +470,7 @@ pub(crate) fn statement_in(
 ) -> Result<Statement, LineFault>
     ensures { MatchResult result
         (λ statement. statement_in (Some (mnemonic, tokens text.now)) ≡ Ok (Some (seen statement)))
-        (λ fault. RefusesLine fault (statement_in (Some (mnemonic, tokens text.now)))) }
+        (λ fault. RefusesAlone fault (statement_in (Some (mnemonic, tokens text.now)))) }
 {
     if mnemonic == Mnemonic::Byte {
         Ok(Statement::Bytes(bytes_of(alloc, text)?))

@@ -16,11 +16,11 @@ returns-then-is_blank_text-clause-added c = λ before s.
 
 pub returns-in-Ok-clause-added : goal.returns-in-Ok-clause-added
 returns-in-Ok-clause-added c = λ before s.
-    let h = c.in-Ok.ensures before s in
+    let h = c.in-Ok.ensures.added before s in
     let same = same_tokens c.args.line.now c.without_comment-text.result.now c.content.result.now c.content.ensures c.without_comment-text.ensures in
     (h.0, ap (λ ts. at_line c.args.number (line_in before ts)) same ∙ ap (at_line c.args.number) h.1, h.2)
 
 pub returns-in-Err-clause-added : goal.returns-in-Err-clause-added
 returns-in-Err-clause-added c = λ before s.
     let same = same_tokens c.args.line.now c.without_comment-text.result.now c.content.result.now c.content.ensures c.without_comment-text.ensures in
-    rw same (c.at.ensures (line_in before (tokens c.without_comment-text.result.now)) (c.in-Err.ensures before s))
+    rw same (c.at.ensures.fault (line_in before (tokens c.without_comment-text.result.now)) (c.in-Err.ensures.added before s))
