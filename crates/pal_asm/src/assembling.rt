@@ -188,7 +188,7 @@ pub fn assemble(alloc: Global, text: &[u8]) -> Result<Bytes, AsmError>
     requires { length text.now < 2 ^ 32 }
     // The code, where there is no fault.
     ensures code { IfOk result (λ code. code_of text.now ≡ Ok code.bytes) }
-    // Exactly the first fault; want of memory says nothing of the text.
+    // Exactly the first fault, unless memory was wanting.
     ensures fault { IfErr result (λ error. Refuses error (code_of text.now)) }
     // Where each line is blank or a comment, no memory is wanted.
     ensures blank { AreBlank (lines text.now) → IsOk result }
