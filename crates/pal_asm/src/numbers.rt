@@ -83,7 +83,7 @@ pub(crate) fn minus_of(word: &[u8]) -> Option<i64>
     }
 }
 
-/// Modulo 2^32.
+/// Modulo 2^32. Of n below 0 this is 2^32 - 1 less what -(n + 1) is modulo 2^32, so no step wraps.
 pub(crate) fn low32(n: i64) -> u32
     ensures { result ≡ low32 n }
 {
