@@ -10,5 +10,6 @@ pub mod ReadingLemmas
 pub mod SpellingLemmas
 pub mod ValueLemmas
 pub mod VariableLemmas
+pub mod WantLemmas
 pub mod WindowLemmas
 pub mod WordLemmas

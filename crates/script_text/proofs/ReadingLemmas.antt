@@ -1,30 +1,28 @@
 -- What is read without a fault is what the line spells, and the other way round.
-use Rattle.std.proofs.Common.{◌≡◌, cond, ℕ, ◌≤◌, ◌⊎◌, inl, inr, Bool, true, false, List, [], ◌∷◌, length, refl, sym, ap, subst, ◌∙◌, arith}
-use Rattle.std.specs.Prelude.{Option, Some, None, Result, Ok, Err, IfOk, nat_lt, nat_le, ◌&&◌, codes}
+use Rattle.std.proofs.Common.{◌≡◌, ℕ, inl, inr, Bool, true, false, List, [], ◌∷◌, length, refl, sym, ap, subst, ◌∙◌, arith}
+use Rattle.std.specs.Prelude.{Option, Some, None, Result, Ok, Err, IfOk, nat_lt, codes}
+use Rattle.std.specs.Option.{ok_or}
 use Rattle.std.specs.List.{list_all}
 use Rattle.std.specs.Str.{bytes_eq}
 use Rattle.std.specs.Cmp.Lexicographic.{same_text}
 use Rattle.std.proofs.lemmas.Bool.Decides.{nat_tests}
 use Rattle.std.proofs.lemmas.List.Sums.{AllPass-from_list_all, list_all-from_AllPass}
+use Rattle.flk_base.specs.Checks.{◌>>=◌, Gives}
 use Rattle.script_text.specs.Lines.{longest_line, words, content}
 use Rattle.script_text.specs.Numbers.{number_of}
-use Rattle.script_text.specs.Expressions.{Term, is_name, is_small_letter, is_name_byte, SpellsExpression}
+use Rattle.script_text.specs.Expressions.{Term, is_name}
 use Rattle.script_text.specs.ExpressionReading.{expression_of}
 use Rattle.script_text.specs.Grammar.{Request, Nothing, ExtendBy, ReadOf, LetBe, ShowOf, ImageOf, TakeOf, GiveAt, PokeAt, PeekAt, DmaAt, ANumber, AName, AKind, AnExpression, kind_word, Spells, is_printable, is_remark, command_word, arguments, SpellAll, SpellsCommand, SpellsWords, SpellsLine}
-use Rattle.script_text.specs.Reading.{◌>>=◌, or_fault, number_in, name_in, kind_in, expression_in, one_of, two_of, five_of, extend_in, read_in, let_in, show_in, image_in, take_in, give_in, poke_in, peek_in, dma_in, memory_command_in, command_in, words_in, reading, Gives}
+use Rattle.script_text.specs.Reading.{number_in, name_in, kind_in, expression_in, one_of, two_of, five_of, extend_in, read_in, let_in, show_in, image_in, take_in, give_in, poke_in, peek_in, dma_in, memory_command_in, command_in, words_in, reading}
 use Rattle.script_text.specs.Seen.{IsShortName, HasShortName}
 use Rattle.script_text.specs.declared.line.LineFault.{LineFault}
-use Rattle.script_text.specs.declared.line.LineFault.TheVariants.{Number, Expression, Name, NoMemory}
+use Rattle.script_text.specs.declared.line.LineFault.TheVariants.{Number, Expression, NoMemory}
 use Rattle.script_text.proofs.ExpressionLemmas as expression
+use Rattle.script_text.proofs.PlainLemmas.{chosen}
 
--- which way a test went
-chosen : {A : Type 0} (b : Bool) (x y z : A) → cond b x y ≡ z → ((b ≡ true) × (x ≡ z)) ⊎ ((b ≡ false) × (y ≡ z))
-chosen true x y z h = inl (refl, h)
-chosen false x y z h = inr (refl, h)
-
-or_fault_ok : {A : Type 0} (o : Option A) (f : LineFault) (x : A) → or_fault o f ≡ Ok x → o ≡ Some x
-or_fault_ok (Some y) f x h = cc
-or_fault_ok None f x h = cc
+has_some : {A : Type 0} (o : Option A) (f : LineFault) (x : A) → ok_or o f ≡ Ok x → o ≡ Some x
+has_some (Some y) f x h = cc
+has_some None f x h = cc
 
 bind_ok : {A B : Type 0} (r : Result A LineFault) (f : A → Result B LineFault) (y : B) → (r >>= f) ≡ Ok y → (x : A) × (r ≡ Ok x) × (f x ≡ Ok y)
 bind_ok (Ok x) f y h = (x, refl, h)
@@ -33,7 +31,7 @@ bind_ok (Err e) f y h = cc
 -- ---- one word
 
 number_found : (word : List ℕ) (n : ℕ) → number_in word ≡ Ok n → Spells (ANumber n) word
-number_found word n h = or_fault_ok (number_of word) Number n h
+number_found word n h = has_some (number_of word) Number n h
 
 name_found : (word name : List ℕ) → name_in word ≡ Ok name → Spells (AName name) word
 name_found word name h = elim (chosen (is_name word) _ _ _ h) [
@@ -51,7 +49,7 @@ kind_found word job h = elim (chosen (bytes_eq word (codes "pal")) _ _ _ h) [
 ]
 
 expression_found : (word : List ℕ) (terms : List Term) → expression_in word ≡ Ok terms → Spells (AnExpression terms) word
-expression_found word terms h = expression.found word terms (or_fault_ok (expression_of word) Expression terms h)
+expression_found word terms h = expression.found word terms (has_some (expression_of word) Expression terms h)
 
 -- ---- so many words
 
@@ -341,7 +339,7 @@ again line request h =
     let short : nat_lt 16384 (length line) ≡ false = grind (arith, nat_tests, h.short) in
     rw (short, list_all-from_AllPass is_printable (content line) h.printable) (words_again request (words (content line)) h.spelled)
 
-pub found_if : {X : Type 0} (view : X → Request) (r : Result X LineFault) (line : List ℕ) → Gives view r (reading line) → IfOk r (λ x. SpellsLine (view x) line)
+pub found_if : {X : Type 0} (view : X → Request) (r : Result X LineFault) (line : List ℕ) → Gives NoMemory view r (reading line) → IfOk r (λ x. SpellsLine (view x) line)
 found_if view (Ok x) line h = found line (view x) h
 found_if view (Err e) line h = tt
 
@@ -384,7 +382,7 @@ words_short (PokeAt at bytes) ws s = tt
 words_short (PeekAt at count) ws s = tt
 words_short (DmaAt at bytes) ws s = tt
 
-pub short_if : {X : Type 0} (view : X → Request) (r : Result X LineFault) (line : List ℕ) → Gives view r (reading line) → IfOk r (λ x. HasShortName (view x))
+pub short_if : {X : Type 0} (view : X → Request) (r : Result X LineFault) (line : List ℕ) → Gives NoMemory view r (reading line) → IfOk r (λ x. HasShortName (view x))
 short_if view (Ok x) line h = words_short (view x) (words (content line)) (found line (view x) h).spelled
 short_if view (Err e) line h = tt
 
@@ -418,14 +416,14 @@ five_memory (a ∷ b ∷ c ∷ d ∷ e ∷ f ∷ ws) h = cc
 number_memory : (word : List ℕ) → number_in word ≡ Err NoMemory → ⊥
 number_memory word h = at (number_of word) h
   where
-    at : (o : Option ℕ) → or_fault o Number ≡ Err NoMemory → ⊥
+    at : (o : Option ℕ) → ok_or o Number ≡ Err NoMemory → ⊥
     at (Some n) h = cc
     at None h = cc
 
 expression_memory : (word : List ℕ) → expression_in word ≡ Err NoMemory → ⊥
 expression_memory word h = at (expression_of word) h
   where
-    at : (o : Option (List Term)) → or_fault o Expression ≡ Err NoMemory → ⊥
+    at : (o : Option (List Term)) → ok_or o Expression ≡ Err NoMemory → ⊥
     at (Some n) h = cc
     at None h = cc
 

@@ -1,13 +1,14 @@
 -- The value of terms, by the windows that their suffixes leave.
 use Rattle.std.proofs.Common.{◌≡◌, ◌⊎◌, inl, inr, ℕ, ◌+◌, ◌-◌, ◌≤◌, List, [], ◌∷◌, ◌++◌, length, take, drop, cond, Bool, false, refl, sym, ap, subst, ◌∙◌, arith, append_assoc, append-nil, length-append, length-drop}
-use Rattle.std.specs.Prelude.{Option, Some, None, Result, Ok, Err, IfOk, OnOk, is_err, nat_le, nat_lt, ◌&&◌}
+use Rattle.std.specs.Prelude.{Option, Some, None, Result, Ok, Err, IsOk, IfOk, OnOk, is_err, nat_le, nat_lt, ◌&&◌}
 use Rattle.std.specs.Option.{ok_or}
 use Rattle.std.specs.FinMap.{get}
 use Rattle.std.proofs.lemmas.Bool.{cases_Bool, cases_cond, leb-true}
 use Rattle.std.proofs.lemmas.List.{length-take-le}
+use Rattle.flk_base.specs.Checks.{◌>>=◌, GivesFaultFirst}
 use Rattle.script_text.specs.Expressions.{Atom, Literal, Repeated, Named, Suffix, Cut, Flip, Term}
 use Rattle.script_text.specs.Variables.{Table}
-use Rattle.script_text.specs.Values.{◌>>=◌, Evaluates, atom_value, suffixed, all_suffixed, term_value, sum_value, value_of, longest_value}
+use Rattle.script_text.specs.Values.{atom_value, suffixed, all_suffixed, term_value, sum_value, value_of, longest_value}
 use Rattle.script_text.specs.Windows.{all_narrowed, changed, joined, length_of, sum_length, whole}
 use Rattle.script_text.specs.declared.value.Window.{Window}
 use Rattle.script_text.specs.declared.value.ExprFault.{ExprFault}
@@ -125,6 +126,10 @@ has_value : (r : Result (List ℕ) ExprFault) (len : ℕ) → length_of r ≡ Ok
 has_value (Ok bytes) len h = (bytes, refl)
 has_value (Err fault) len h = absurd (cc)
 
+-- where the length is known, there is a value
+pub sum_is_ok : (table : Table) (terms : List Term) (len : ℕ) → sum_length table 0 terms ≡ Ok len → IsOk (value_of terms table)
+sum_is_ok table terms len h = let there = (has_value (value_of terms table) len (length-sum_value table [] terms ∙ h)).1 in rw there refl
+
 -- where the length is known, the value is what the terms have together
 pub sum_joined : (table : Table) (terms : List Term) (len : ℕ) → sum_length table 0 terms ≡ Ok len → value_of terms table ≡ joined table terms
 sum_joined table terms len h =
@@ -148,7 +153,7 @@ sum_short table sum total [] low is = let same : sum ≡ total = cc in subst (λ
 sum_short table sum total (term ∷ terms) low is = short_step table sum total terms (term_value table term) (λ ys fits. sum_short table (sum ++ ys) total terms fits) is
 
 -- no value is longer than the longest
-pub short_if : {X : Type 0} (view : X → List ℕ) (r : Result X ExprFault) (terms : List Term) (table : Table) → Evaluates view r (value_of terms table) → IfOk r (λ x. length (view x) ≤ longest_value)
+pub short_if : {X : Type 0} (view : X → List ℕ) (r : Result X ExprFault) (terms : List Term) (table : Table) → GivesFaultFirst NoMemory view r (value_of terms table) → IfOk r (λ x. length (view x) ≤ longest_value)
 short_if view (Ok x) terms table h = sum_short table [] (view x) terms (omega arith) h
 short_if view (Err fault) terms table h = tt
 

@@ -1,7 +1,9 @@
 -- What a line asks for, or the first thing that is wrong with it: the checks in their order.
-use Rattle.std.specs.Prelude.{◌≡◌, ◌⊎◌, ℕ, nat_lt, Bool, true, false, List, [], ◌∷◌, length, codes, Option, Some, None, Result, Ok, Err, if◌then◌else◌}
+use Rattle.std.specs.Prelude.{ℕ, nat_lt, Bool, true, false, List, [], ◌∷◌, length, codes, Result, Ok, Err, if◌then◌else◌}
+use Rattle.std.specs.Option.{ok_or}
 use Rattle.std.specs.List.{list_all}
 use Rattle.std.specs.Str.{bytes_eq}
+use Rattle.flk_base.specs.Checks.{◌>>=◌}
 use Rattle.script_text.specs.Lines.{longest_line, most_lines, words, content}
 use Rattle.script_text.specs.Numbers.{number_of}
 use Rattle.script_text.specs.Expressions.{Term, is_name}
@@ -10,24 +12,13 @@ use Rattle.script_text.specs.Grammar.{Request, Nothing, ExtendBy, ReadOf, LetBe,
 use Rattle.script_text.specs.declared.line.BadLine.{BadLine}
 use Rattle.script_text.specs.declared.line.BadLine.TheVariants.{Faulty, TooMany}
 use Rattle.script_text.specs.declared.line.LineFault.{LineFault}
-use Rattle.script_text.specs.declared.line.LineFault.TheVariants.{LongLine, Byte, Command, Count, Number, Expression, Name, NoMemory}
-
-infixl 10 ◌>>=◌
--- the second check, where the first found no fault
-abbrev pub ◌>>=◌ : {A B : Type 0} → Result A LineFault → (A → Result B LineFault) → Result B LineFault
-Ok x >>= f = f x
-Err e >>= f = Err e
-
--- the value, or this fault where there is none
-abbrev pub or_fault : {A : Type 0} → Option A → LineFault → Result A LineFault
-or_fault (Some x) fault = Ok x
-or_fault None fault = Err fault
+use Rattle.script_text.specs.declared.line.LineFault.TheVariants.{LongLine, Byte, Command, Count, Number, Expression, Name}
 
 -- ---- one word
 
 -- a word that has to be a Number
 abbrev pub number_in : List ℕ → Result ℕ LineFault
-number_in word = or_fault (number_of word) Number
+number_in word = ok_or (number_of word) Number
 
 -- a word that has to be a Name
 abbrev pub name_in : List ℕ → Result (List ℕ) LineFault
@@ -39,7 +30,7 @@ kind_in word = if bytes_eq word (codes "pal") then Ok false else if bytes_eq wor
 
 -- a word that has to be an Expression
 abbrev pub expression_in : List ℕ → Result (List Term) LineFault
-expression_in word = or_fault (expression_of word) Expression
+expression_in word = ok_or (expression_of word) Expression
 
 -- ---- so many words
 
@@ -130,7 +121,26 @@ as_bad (Err fault) = Err (Faulty fault)
 abbrev pub judged : ℕ → List ℕ → Result Request BadLine
 judged n line = if nat_lt most_lines n then Err TooMany else as_bad (reading line)
 
--- what a function returned, seen by view, is what reading gives, unless memory ran out
-abbrev pub Gives : {X Y : Type 0} → (X → Y) → Result X LineFault → Result Y LineFault → Type 0
-Gives view (Ok x) read = read ≡ Ok (view x)
-Gives view (Err fault) read = (fault ≡ NoMemory) ⊎ (read ≡ Err fault)
+-- ---- memory: it is taken for a name and for an expression alone
+
+-- it is found before any word behind the command is tried
+abbrev pub IsEarly : LineFault → Type 0
+IsEarly LongLine = Unit {0}
+IsEarly Byte = Unit {0}
+IsEarly Command = Unit {0}
+IsEarly Count = Unit {0}
+IsEarly other = ⊥
+
+-- it has no name and no expression
+abbrev pub IsPlain : Request → Type 0
+IsPlain Nothing = Unit {0}
+IsPlain (ReadOf r) = Unit {0}
+IsPlain (TakeOf frames) = Unit {0}
+IsPlain (GiveAt at) = Unit {0}
+IsPlain (PeekAt at count) = Unit {0}
+IsPlain other = ⊥
+
+-- memory may be wanting before there is this answer
+abbrev pub MayWant : Result Request LineFault → Type 0
+MayWant (Ok request) = IsPlain request → ⊥
+MayWant (Err fault) = IsEarly fault → ⊥

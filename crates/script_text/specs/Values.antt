@@ -1,21 +1,16 @@
 -- The value of an expression.
-use Rattle.std.specs.Prelude.{◌≡◌, ◌⊎◌, ℕ, ◌+◌, nat_le, nat_lt, ◌&&◌, List, [], ◌∷◌, ◌++◌, length, replicate, slice_index, slice_range, slice_set, bit_xor, Result, Ok, Err, if◌then◌else◌}
+use Rattle.std.specs.Prelude.{ℕ, ◌+◌, nat_le, nat_lt, ◌&&◌, List, [], ◌∷◌, ◌++◌, length, replicate, slice_index, slice_range, slice_set, bit_xor, Result, Ok, Err, if◌then◌else◌}
 use Rattle.std.specs.Option.{ok_or}
 use Rattle.std.specs.FinMap.{get}
+use Rattle.flk_base.specs.Checks.{◌>>=◌}
 use Rattle.script_text.specs.Expressions.{Atom, Literal, Repeated, Named, Suffix, Cut, Flip, Term}
 use Rattle.script_text.specs.Variables.{Table}
 use Rattle.script_text.specs.declared.value.ExprFault.{ExprFault}
-use Rattle.script_text.specs.declared.value.ExprFault.TheVariants.{Name, Range, Long, NoMemory}
+use Rattle.script_text.specs.declared.value.ExprFault.TheVariants.{Name, Range, Long}
 
 -- the most bytes that a term may have, and the sum of terms
 abbrev pub longest_value : ℕ
 longest_value = 65536
-
-infixl 10 ◌>>=◌
--- the second step, where the first found no fault
-abbrev pub ◌>>=◌ : {A B : Type 0} → Result A ExprFault → (A → Result B ExprFault) → Result B ExprFault
-Ok x >>= f = f x
-Err e >>= f = Err e
 
 -- an atom: a name has the value that it is bound to
 abbrev pub atom_value : Table → Atom → Result (List ℕ) ExprFault
@@ -50,8 +45,3 @@ sum_value table sum (term ∷ terms) =
 -- the value of an expression, or its first fault from the left
 abbrev pub value_of : List Term → Table → Result (List ℕ) ExprFault
 value_of terms table = sum_value table [] terms
-
--- what a function returned, seen by view, is this value or fault, unless memory ran out
-abbrev pub Evaluates : {X Y : Type 0} → (X → Y) → Result X ExprFault → Result Y ExprFault → Type 0
-Evaluates view (Ok x) value = value ≡ Ok (view x)
-Evaluates view (Err fault) value = (fault ≡ NoMemory) ⊎ (value ≡ Err fault)

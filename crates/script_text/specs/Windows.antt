@@ -1,8 +1,9 @@
 -- Which bytes of an atom's value remain behind its suffixes, and what is done to them.
 use Rattle.std.specs.Prelude.{◌≡◌, ◌⊎◌, ℕ, ◌+◌, ◌-◌, ◌≤◌, nat_le, nat_lt, ◌&&◌, List, [], ◌∷◌, ◌++◌, length, replicate, slice_index, slice_set, Result, Ok, Err, if◌then◌else◌}
+use Rattle.flk_base.specs.Checks.{◌>>=◌}
 use Rattle.script_text.specs.Expressions.{Suffix, Cut, Flip, Term}
 use Rattle.script_text.specs.Variables.{Table}
-use Rattle.script_text.specs.Values.{◌>>=◌, flipped, longest_value, term_value}
+use Rattle.script_text.specs.Values.{flipped, longest_value, term_value}
 use Rattle.script_text.specs.declared.value.ExprFault.{ExprFault}
 use Rattle.script_text.specs.declared.value.ExprFault.TheVariants.{Range, Long, NoMemory}
 use Rattle.script_text.specs.declared.value.Window.{Window}

@@ -1,8 +1,9 @@
 // Expressions, and how they are read from a word.
 ghost use Rattle.std.specs.Prelude.{◌≡◌, ◌≢◌, ◌↔◌, ◌≤◌, ℕ, List, length, IfOk, Some, Err};
+ghost use Rattle.flk_base.specs.Checks.{GivesFaultFirst};
 ghost use Rattle.script_text.specs.Expressions.{Term, SpellsExpression};
 ghost use Rattle.script_text.specs.ExpressionReading.{Reads, expression_of};
-ghost use Rattle.script_text.specs.Values.{Evaluates, longest_value, value_of};
+ghost use Rattle.script_text.specs.Values.{longest_value, value_of};
 ghost use Rattle.script_text.specs.Variables.{Table};
 
 use crate::name::Name;
@@ -70,9 +71,10 @@ pub(crate) enum Unread {
 }
 
 impl Expr {
-    /// The value of the expression, or the first fault from the left. It takes memory for the value alone.
+    /// The value of the expression, or the first fault from the left. It takes memory for the value alone, and only
+    /// where there is one: every fault is found before.
     pub fn value(&self, alloc: Global, vars: &Vars) -> Result<Bytes, ExprFault>
-        ensures exact { Evaluates (λ made. made.bytes) result (value_of self.now vars.now.table) }
+        ensures exact { GivesFaultFirst ExprFault.NoMemory (λ made. made.bytes) result (value_of self.now vars.now.table) }
         ensures short { IfOk result (λ made. length made.bytes ≤ longest_value) }
     {
         value_of(alloc, self.terms.as_slice(), vars)

@@ -1,9 +1,10 @@
 // What a line asks for.
-ghost use Rattle.std.specs.Prelude.{◌≡◌, ◌≢◌, ◌↔◌, ℕ, List, IfOk, Ok, Err};
+ghost use Rattle.std.specs.Prelude.{◌≡◌, ◌≢◌, ◌↔◌, ℕ, List, IfOk, IfErr, IsOk, Ok, Err};
 ghost use Rattle.std.specs.List.{list_all};
+ghost use Rattle.flk_base.specs.Checks.{Gives};
 ghost use Rattle.script_text.specs.Expressions.{is_name};
-ghost use Rattle.script_text.specs.Grammar.{Request, SpellsLine, is_printable};
-ghost use Rattle.script_text.specs.Reading.{Gives, reading, words_in, command_in, extend_in, read_in, let_in, show_in, image_in, memory_command_in, take_in, give_in, poke_in, peek_in, dma_in, number_in, name_in, kind_in, expression_in};
+ghost use Rattle.script_text.specs.Grammar.{Request, Nothing, SpellsLine, is_printable};
+ghost use Rattle.script_text.specs.Reading.{IsEarly, IsPlain, MayWant, reading, words_in, command_in, extend_in, read_in, let_in, show_in, image_in, memory_command_in, take_in, give_in, poke_in, peek_in, dma_in, number_in, name_in, kind_in, expression_in};
 ghost use Rattle.script_text.specs.Seen.{request_of, HasShortName};
 
 use crate::expression::{self, Expr, Unread};
@@ -75,7 +76,8 @@ pub enum Event {
     },
 }
 
-/// The first thing that is wrong with a line, in the order of the checks.
+/// The first thing that is wrong with a line, in the order of the checks. Of the words of one line, which have the
+/// checks 5 to 7, the leftmost bad one counts.
 #[derive(Clone, Copy, Debug, PartialEq, Eq)]
 pub enum LineFault {
     /// 1: more than 16,384 bytes stand before the LF.
@@ -122,9 +124,15 @@ pub fn read_line(alloc: Global, bytes: &[u8]) -> Result<Event, LineFault>
     // What is read is spelled so.
     ensures spelled { IfOk result (λ event. SpellsLine (request_of event) bytes.now) }
     // What is spelled so is read, unless memory runs out.
-    ensures only { (request : Request) → SpellsLine request bytes.now → Gives request_of result (Ok request) }
+    ensures only { (request : Request) → SpellsLine request bytes.now → Gives LineFault.NoMemory request_of result (Ok request) }
     // Which fault it is: the first in the order of the checks.
-    ensures exact { Gives request_of result (reading bytes.now) }
+    ensures exact { Gives LineFault.NoMemory request_of result (reading bytes.now) }
+    // What is wrong before any word behind the command is tried is told, also where there is no memory.
+    ensures early { (fault : LineFault) → IsEarly fault → reading bytes.now ≡ Err fault → result ≡ Err fault }
+    // A line without words and a comment take no memory.
+    ensures blank { reading bytes.now ≡ Ok Nothing → result ≡ Ok Event.Blank }
+    // Nor does a line whose words behind the command are all numbers.
+    ensures plain { (request : Request) → IsPlain request → reading bytes.now ≡ Ok request → IsOk result }
     // A name that is bound has 1 to 16 bytes.
     ensures name { IfOk result (λ event. HasShortName (request_of event)) }
 {
@@ -140,7 +148,8 @@ pub fn one_request()
 {}
 
 fn first_fault(alloc: Global, bytes: &[u8]) -> Result<Event, LineFault>
-    ensures { Gives request_of result (reading bytes.now) }
+    ensures exact { Gives LineFault.NoMemory request_of result (reading bytes.now) }
+    ensures want { result ≡ Err LineFault.NoMemory → MayWant (reading bytes.now) }
 {
     if bytes.len() > LONGEST_LINE {
         return Err(LineFault::LongLine);
@@ -153,7 +162,8 @@ fn first_fault(alloc: Global, bytes: &[u8]) -> Result<Event, LineFault>
 }
 
 fn read_words(alloc: Global, mut words: Words<'_>) -> Result<Event, LineFault>
-    ensures { Gives request_of result (words_in words.entry) }
+    ensures exact { Gives LineFault.NoMemory request_of result (words_in words.entry) }
+    ensures want { result ≡ Err LineFault.NoMemory → MayWant (words_in words.entry) }
 {
     match words.next() {
         None => Ok(Event::Blank),
@@ -163,7 +173,8 @@ fn read_words(alloc: Global, mut words: Words<'_>) -> Result<Event, LineFault>
 }
 
 fn read_command(alloc: Global, command: &[u8], words: Words<'_>) -> Result<Event, LineFault>
-    ensures { Gives request_of result (command_in command.now words.entry) }
+    ensures exact { Gives LineFault.NoMemory request_of result (command_in command.now words.entry) }
+    ensures want { result ≡ Err LineFault.NoMemory → MayWant (command_in command.now words.entry) }
 {
     if command == b"extend".as_slice() {
         read_extend(alloc, words)
@@ -181,7 +192,8 @@ fn read_command(alloc: Global, command: &[u8], words: Words<'_>) -> Result<Event
 }
 
 fn read_memory_command(alloc: Global, command: &[u8], words: Words<'_>) -> Result<Event, LineFault>
-    ensures { Gives request_of result (memory_command_in command.now words.entry) }
+    ensures exact { Gives LineFault.NoMemory request_of result (memory_command_in command.now words.entry) }
+    ensures want { result ≡ Err LineFault.NoMemory → MayWant (memory_command_in command.now words.entry) }
 {
     if command == b"take".as_slice() {
         read_take(words)
@@ -199,7 +211,8 @@ fn read_memory_command(alloc: Global, command: &[u8], words: Words<'_>) -> Resul
 }
 
 fn read_extend(alloc: Global, words: Words<'_>) -> Result<Event, LineFault>
-    ensures { Gives request_of result (extend_in words.entry) }
+    ensures exact { Gives LineFault.NoMemory request_of result (extend_in words.entry) }
+    ensures want { result ≡ Err LineFault.NoMemory → MayWant (extend_in words.entry) }
 {
     let (number, expression) = two(words)?;
     let r = number_in(number)?;
@@ -208,7 +221,8 @@ fn read_extend(alloc: Global, words: Words<'_>) -> Result<Event, LineFault>
 }
 
 fn read_read(words: Words<'_>) -> Result<Event, LineFault>
-    ensures { Gives request_of result (read_in words.entry) }
+    ensures exact { Gives LineFault.NoMemory request_of result (read_in words.entry) }
+    ensures want { result ≡ Err LineFault.NoMemory → MayWant (read_in words.entry) }
 {
     let number = one(words)?;
     let r = number_in(number)?;
@@ -216,7 +230,8 @@ fn read_read(words: Words<'_>) -> Result<Event, LineFault>
 }
 
 fn read_let(alloc: Global, words: Words<'_>) -> Result<Event, LineFault>
-    ensures { Gives request_of result (let_in words.entry) }
+    ensures exact { Gives LineFault.NoMemory request_of result (let_in words.entry) }
+    ensures want { result ≡ Err LineFault.NoMemory → MayWant (let_in words.entry) }
 {
     let (name, expression) = two(words)?;
     let var = name_in(alloc, name)?;
@@ -225,7 +240,8 @@ fn read_let(alloc: Global, words: Words<'_>) -> Result<Event, LineFault>
 }
 
 fn read_show(alloc: Global, words: Words<'_>) -> Result<Event, LineFault>
-    ensures { Gives request_of result (show_in words.entry) }
+    ensures exact { Gives LineFault.NoMemory request_of result (show_in words.entry) }
+    ensures want { result ≡ Err LineFault.NoMemory → MayWant (show_in words.entry) }
 {
     let expression = one(words)?;
     let value = expression_in(alloc, expression)?;
@@ -233,7 +249,8 @@ fn read_show(alloc: Global, words: Words<'_>) -> Result<Event, LineFault>
 }
 
 fn read_image(alloc: Global, words: Words<'_>) -> Result<Event, LineFault>
-    ensures { Gives request_of result (image_in words.entry) }
+    ensures exact { Gives LineFault.NoMemory request_of result (image_in words.entry) }
+    ensures want { result ≡ Err LineFault.NoMemory → MayWant (image_in words.entry) }
 {
     let (name, kind, entry, budget, expression) = five(words)?;
     let var = name_in(alloc, name)?;
@@ -251,7 +268,8 @@ fn read_image(alloc: Global, words: Words<'_>) -> Result<Event, LineFault>
 }
 
 fn read_take(words: Words<'_>) -> Result<Event, LineFault>
-    ensures { Gives request_of result (take_in words.entry) }
+    ensures exact { Gives LineFault.NoMemory request_of result (take_in words.entry) }
+    ensures want { result ≡ Err LineFault.NoMemory → MayWant (take_in words.entry) }
 {
     let number = one(words)?;
     let n = number_in(number)?;
@@ -259,7 +277,8 @@ fn read_take(words: Words<'_>) -> Result<Event, LineFault>
 }
 
 fn read_give(words: Words<'_>) -> Result<Event, LineFault>
-    ensures { Gives request_of result (give_in words.entry) }
+    ensures exact { Gives LineFault.NoMemory request_of result (give_in words.entry) }
+    ensures want { result ≡ Err LineFault.NoMemory → MayWant (give_in words.entry) }
 {
     let number = one(words)?;
     let at = number_in(number)?;
@@ -267,7 +286,8 @@ fn read_give(words: Words<'_>) -> Result<Event, LineFault>
 }
 
 fn read_poke(alloc: Global, words: Words<'_>) -> Result<Event, LineFault>
-    ensures { Gives request_of result (poke_in words.entry) }
+    ensures exact { Gives LineFault.NoMemory request_of result (poke_in words.entry) }
+    ensures want { result ≡ Err LineFault.NoMemory → MayWant (poke_in words.entry) }
 {
     let (number, expression) = two(words)?;
     let at = number_in(number)?;
@@ -276,7 +296,8 @@ fn read_poke(alloc: Global, words: Words<'_>) -> Result<Event, LineFault>
 }
 
 fn read_peek(words: Words<'_>) -> Result<Event, LineFault>
-    ensures { Gives request_of result (peek_in words.entry) }
+    ensures exact { Gives LineFault.NoMemory request_of result (peek_in words.entry) }
+    ensures want { result ≡ Err LineFault.NoMemory → MayWant (peek_in words.entry) }
 {
     let (address, count) = two(words)?;
     let at = number_in(address)?;
@@ -285,7 +306,8 @@ fn read_peek(words: Words<'_>) -> Result<Event, LineFault>
 }
 
 fn read_dma(alloc: Global, words: Words<'_>) -> Result<Event, LineFault>
-    ensures { Gives request_of result (dma_in words.entry) }
+    ensures exact { Gives LineFault.NoMemory request_of result (dma_in words.entry) }
+    ensures want { result ≡ Err LineFault.NoMemory → MayWant (dma_in words.entry) }
 {
     let (number, expression) = two(words)?;
     let at = number_in(number)?;
@@ -294,13 +316,14 @@ fn read_dma(alloc: Global, words: Words<'_>) -> Result<Event, LineFault>
 }
 
 fn number_in(word: &[u8]) -> Result<u32, LineFault>
-    ensures { result ≡ number_in word.now }
+    ensures value { result ≡ number_in word.now }
+    ensures fault { IfErr result (λ fault. fault ≡ LineFault.Number) }
 {
     number_of(word).ok_or(LineFault::Number)
 }
 
 fn name_in(alloc: Global, word: &[u8]) -> Result<Bytes, LineFault>
-    ensures { Gives (λ name. name.bytes) result (name_in word.now) }
+    ensures { Gives LineFault.NoMemory (λ name. name.bytes) result (name_in word.now) }
 {
     if !is_name(word) {
         return Err(LineFault::Name);
@@ -313,7 +336,8 @@ fn name_in(alloc: Global, word: &[u8]) -> Result<Bytes, LineFault>
 }
 
 fn kind_in(word: &[u8]) -> Result<bool, LineFault>
-    ensures { result ≡ kind_in word.now }
+    ensures value { result ≡ kind_in word.now }
+    ensures fault { IfErr result (λ fault. fault ≡ LineFault.Name) }
 {
     if word == b"pal".as_slice() {
         Ok(false)
@@ -325,7 +349,7 @@ fn kind_in(word: &[u8]) -> Result<bool, LineFault>
 }
 
 fn expression_in(alloc: Global, word: &[u8]) -> Result<Expr, LineFault>
-    ensures { Gives (λ expression. expression) result (expression_in word.now) }
+    ensures { Gives LineFault.NoMemory (λ expression. expression) result (expression_in word.now) }
 {
     match expression::expression_in(alloc, word) {
         Ok(expression) => Ok(expression),

@@ -1,5 +1,5 @@
 // Gives the lines of a source one after another.
-ghost use Rattle.std.specs.Prelude.{◌≡◌, ◌⊎◌, ◌+◌, ◌-◌, ◌<◌, ◌≤◌, ℕ, true, false, [], Option, length, take, drop, slice_range, slice_index, IfOk, OnOk, OnErr, MatchOption};
+ghost use Rattle.std.specs.Prelude.{◌≡◌, ◌≢◌, ◌⊎◌, ◌+◌, ◌-◌, ◌<◌, ◌≤◌, ℕ, true, false, [], Option, length, take, drop, slice_range, slice_index, IfOk, OnOk, OnErr, MatchOption};
 ghost use Rattle.std.specs.Io.KnownBytes.{IsAtEnd, ReadConsumes};
 ghost use Rattle.flk_base.specs.Causes.{HasCause, Rose};
 ghost use Rattle.flk_base.specs.Told.{KeepsWhereTold};
@@ -119,6 +119,8 @@ impl LineReader {
             → self.new.ended ≡ true → IsAtEnd (S.left source.new) }
         ensures later { S.fault_count source.old ≤ S.fault_count source.new }
         ensures cause { result ≡ LineEnd.Failed → Rose (S.fault_count source.old) (S.fault_count source.new) }
+        // Nothing but a fault counts.
+        ensures stays { result ≢ LineEnd.Failed → S.fault_count source.new ≡ S.fault_count source.old }
     {
         self.forget_line();
         loop {
@@ -159,6 +161,8 @@ impl LineReader {
             → self.new.ended ≡ true → IsAtEnd (S.left source.new) }
         ensures later { S.fault_count source.old ≤ S.fault_count source.new }
         ensures cause { result ≡ AnyEnd.Failed → Rose (S.fault_count source.old) (S.fault_count source.new) }
+        // Nothing but a fault counts.
+        ensures stays { result ≢ AnyEnd.Failed → S.fault_count source.new ≡ S.fault_count source.old }
     {
         self.forget_line();
         if self.start < self.end {
@@ -226,6 +230,7 @@ impl LineReader {
         ensures err { OnErr result (self.new ≡ record self.old { line = [] }) }
         ensures kept { OnErr result (KeepsWhereTold (S.left source.old) (S.left source.new)) }
         ensures cause { HasCause (S.fault_count source.old) (S.fault_count source.new) result }
+        ensures stays { OnOk result (S.fault_count source.new ≡ S.fault_count source.old) }
     {
         self.line_start = 0;
         self.line_end = 0;
@@ -292,6 +297,7 @@ fn read_behind<S: Source>(source: &mut S, buffer: &mut [u8], end: usize) -> Resu
     ensures bytes { OnOk result (ReadConsumes (S.left source.old) (S.left source.new) result (drop end buffer.new)) }
     ensures kept { OnErr result (KeepsWhereTold (S.left source.old) (S.left source.new)) }
     ensures cause { HasCause (S.fault_count source.old) (S.fault_count source.new) result }
+    ensures stays { OnOk result (S.fault_count source.new ≡ S.fault_count source.old) }
 {
     source.read(&mut buffer[end..end + READ_SIZE])
 }

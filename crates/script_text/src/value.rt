@@ -1,7 +1,8 @@
 // The value of an expression: first its length, then its bytes.
 ghost use Rattle.std.specs.Prelude.{◌≡◌, ◌+◌, ◌-◌, ◌^◌, ◌<◌, ◌≤◌, ◌++◌, length, take, drop, IfOk, OnOk, MatchResult, Ok, Err};
+ghost use Rattle.flk_base.specs.Checks.{GivesFaultFirst};
 ghost use Rattle.script_text.specs.SeenExpressions.{seen_atom, seen_suffix, seen_suffixes, seen_term, seen_terms};
-ghost use Rattle.script_text.specs.Values.{Evaluates, atom_value, term_value, value_of};
+ghost use Rattle.script_text.specs.Values.{atom_value, term_value, value_of};
 ghost use Rattle.script_text.specs.Windows.{Appends, source_bytes, length_of, narrowed, all_narrowed, flipped_at, changed, joined, sum_length, whole, IsWithin};
 
 use crate::expression::{ExprAtom, ExprSuffix, ExprTerm};
@@ -44,7 +45,7 @@ enum Source<'a> {
 
 /// The value of terms.
 pub(crate) fn value_of(alloc: Global, terms: &[ExprTerm], vars: &Vars) -> Result<Bytes, ExprFault>
-    ensures { Evaluates (λ made. made.bytes) result (value_of (seen_terms terms.now) vars.now.table) }
+    ensures { GivesFaultFirst ExprFault.NoMemory (λ made. made.bytes) result (value_of (seen_terms terms.now) vars.now.table) }
 {
     let len = sum_length(terms, vars)?;
     let mut made = Bytes::new(alloc);

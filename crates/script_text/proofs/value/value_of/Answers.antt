@@ -1,8 +1,8 @@
-use Rattle.std.proofs.Common.{◌++◌, inl, inr, sym, ap, ◌∙◌}
+use Rattle.std.proofs.Common.{◌++◌, inl, inr, refl, sym, ap, ◌∙◌}
 use Rattle.std.specs.Prelude.{Ok}
 use Rattle.std.proofs.lemmas.Result.{err_from_is_err_and}
 use Rattle.script_text.specs.SeenExpressions.{seen_terms}
-use Rattle.script_text.proofs.ValueLemmas.{sum_fault, sum_joined}
+use Rattle.script_text.proofs.ValueLemmas.{sum_fault, sum_is_ok, sum_joined}
 use Rattle.script_text.proofs.value.value_of.Goals as goal
 
 pub returns-in_err-len : goal.returns-in_err-len
@@ -14,7 +14,11 @@ pub returns-in_err-append_terms : goal.returns-in_err-append_terms
 returns-in_err-append_terms c =
     let p = err_from_is_err_and c.from_residual-in_err-append_terms.result c.from_residual-in_err-append_terms.ensures.1 in
     let whole = sum_joined c.args.vars.now.table (seen_terms c.args.terms.now) _ (sym c.in_ok-len.ensures) in
-    rw (p.1, p.2) (elim c.in_err-append_terms.ensures [ inl want ↦ inl want | inr bad ↦ inr (whole ∙ bad) ])
+    let found = sum_is_ok c.args.vars.now.table (seen_terms c.args.terms.now) _ (sym c.in_ok-len.ensures) in
+    rw (p.1, p.2) (elim c.in_err-append_terms.ensures [ inl want ↦ inl (want, found) | inr bad ↦ inr (whole ∙ bad) ])
+
+pub returns-then-is_err : goal.returns-then-is_err
+returns-then-is_err c = inl (refl, sum_is_ok c.args.vars.now.table (seen_terms c.args.terms.now) _ (sym c.in_ok-len.ensures))
 
 pub returns : goal.returns
 returns c =
