@@ -1,6 +1,7 @@
 -- Which bytes stand in the words of an expression: none of them ends a word.
 use Rattle.std.proofs.Common.{◌≡◌, ◌⊎◌, inl, inr, ℕ, ◌+◌, ◌*◌, ◌≤◌, ◌==◌, Bool, true, false, not, cond, List, [], ◌∷◌, ◌++◌, length, drop, refl, sym, ap, ◌∙◌, arith}
 use Rattle.std.specs.Prelude.{Option, Some, None, Ok, nat_eq, nat_lt, nat_le, ◌&&◌, ◌||◌, codes, option_and_then}
+use Rattle.std.specs.Option.{ok_or}
 use Rattle.std.specs.List.{All, AllPass, list_all, starts_with}
 use Rattle.std.specs.Char.{digit_value}
 use Rattle.std.proofs.lemmas.Bool.{and_parts, or_parts, or_from, not-true, not_from_false, eqb-true, false_from_ne_true, leb-true, ltb-true, lt-ltb}
@@ -69,6 +70,11 @@ name_is_plain word h = All-weaker IsNameByte IsPlain name_plain word (is_name-pa
 pub chosen : {A : Type 0} (b : Bool) (x y z : A) → cond b x y ≡ z → ((b ≡ true) × (x ≡ z)) ⊎ ((b ≡ false) × (y ≡ z))
 chosen true x y z h = inl (refl, h)
 chosen false x y z h = inr (refl, h)
+
+-- a value that is there
+pub has_some : {A E : Type 0} (o : Option A) (fault : E) (x : A) → ok_or o fault ≡ Ok x → o ≡ Some x
+has_some (Some y) fault x h = cc
+has_some None fault x h = cc
 
 -- a first step that gave a value
 pub first_step : {A B : Type 0} (f : A → Option B) (o : Option A) (n : B) → option_and_then f o ≡ Some n → (d : A) × (o ≡ Some d) × (f d ≡ Some n)

@@ -18,11 +18,7 @@ use Rattle.script_text.specs.Seen.{IsShortName, HasShortName}
 use Rattle.script_text.specs.declared.line.LineFault.{LineFault}
 use Rattle.script_text.specs.declared.line.LineFault.TheVariants.{Number, Expression, NoMemory}
 use Rattle.script_text.proofs.ExpressionLemmas as expression
-use Rattle.script_text.proofs.PlainLemmas.{chosen}
-
-has_some : {A : Type 0} (o : Option A) (f : LineFault) (x : A) → ok_or o f ≡ Ok x → o ≡ Some x
-has_some (Some y) f x h = cc
-has_some None f x h = cc
+use Rattle.script_text.proofs.PlainLemmas.{chosen, has_some}
 
 bind_ok : {A B : Type 0} (r : Result A LineFault) (f : A → Result B LineFault) (y : B) → (r >>= f) ≡ Ok y → (x : A) × (r ≡ Ok x) × (f x ≡ Ok y)
 bind_ok (Ok x) f y h = (x, refl, h)

@@ -6,4 +6,5 @@ use Rattle.script_text.proofs.spelling.literal_in.Goals as goal
 pub returns-in-Err-Digit : goal.returns-in-Err-Digit
 returns-in-Err-Digit c =
     let cause = rw c.in-Err-Digit.field-0-is at c.in-Err-Digit.ensures.err in
-    inr (refl, no_literal c.args.word.now _ c.requires (take_rest c.args.word.now 2) cause.1)
+    let none = no_literal c.args.word.now _ c.requires (take_rest c.args.word.now 2) cause.1 in
+    inr (rw none refl)
