@@ -140,6 +140,24 @@ IsPlain (GiveAt at) = Unit {0}
 IsPlain (PeekAt at count) = Unit {0}
 IsPlain other = ⊥
 
+-- a command on memory that has an expression behind it
+abbrev pub memory_command_takes : List ℕ → Bool
+memory_command_takes word = if bytes_eq word (codes "poke") then true else bytes_eq word (codes "dma")
+
+-- a command that has a name or an expression behind it
+abbrev pub command_takes : List ℕ → Bool
+command_takes word =
+    if bytes_eq word (codes "extend") then true
+    else if bytes_eq word (codes "let") then true
+    else if bytes_eq word (codes "show") then true
+    else if bytes_eq word (codes "image") then true
+    else memory_command_takes word
+
+-- words that begin with one
+abbrev pub words_take : List (List ℕ) → Bool
+words_take [] = false
+words_take (word ∷ others) = command_takes word
+
 -- memory may be wanting before there is this answer
 abbrev pub MayWant : Result Request LineFault → Type 0
 MayWant (Ok request) = IsPlain request → ⊥

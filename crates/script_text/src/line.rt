@@ -1,10 +1,11 @@
 // What a line asks for.
-ghost use Rattle.std.specs.Prelude.{◌≡◌, ◌≢◌, ◌↔◌, ℕ, List, IfOk, IfErr, IsOk, Ok, Err};
+ghost use Rattle.std.specs.Prelude.{◌≡◌, ◌≢◌, ◌↔◌, ℕ, true, false, List, IfOk, IfErr, IsOk, Ok, Err};
 ghost use Rattle.std.specs.List.{list_all};
 ghost use Rattle.flk_base.specs.Checks.{Gives};
 ghost use Rattle.script_text.specs.Expressions.{is_name};
+ghost use Rattle.script_text.specs.Lines.{words, content};
 ghost use Rattle.script_text.specs.Grammar.{Request, Nothing, SpellsLine, is_printable};
-ghost use Rattle.script_text.specs.Reading.{IsEarly, IsPlain, MayWant, reading, words_in, command_in, extend_in, read_in, let_in, show_in, image_in, memory_command_in, take_in, give_in, poke_in, peek_in, dma_in, number_in, name_in, kind_in, expression_in};
+ghost use Rattle.script_text.specs.Reading.{IsEarly, IsPlain, MayWant, words_take, command_takes, memory_command_takes, reading, words_in, command_in, extend_in, read_in, let_in, show_in, image_in, memory_command_in, take_in, give_in, poke_in, peek_in, dma_in, number_in, name_in, kind_in, expression_in};
 ghost use Rattle.script_text.specs.Seen.{request_of, HasShortName};
 
 use crate::expression::{self, Expr, Unread};
@@ -133,6 +134,8 @@ pub fn read_line(alloc: Global, bytes: &[u8]) -> Result<Event, LineFault>
     ensures blank { reading bytes.now ≡ Ok Nothing → result ≡ Ok Event.Blank }
     // Nor does a line whose words behind the command are all numbers.
     ensures plain { (request : Request) → IsPlain request → reading bytes.now ≡ Ok request → IsOk result }
+    // Nor is it wanting for a bad line whose command has neither a name nor an expression behind it.
+    ensures unasked { words_take (words (content bytes.now)) ≡ false → result ≢ Err LineFault.NoMemory }
     // A name that is bound has 1 to 16 bytes.
     ensures name { IfOk result (λ event. HasShortName (request_of event)) }
 {
@@ -150,6 +153,7 @@ pub fn one_request()
 fn first_fault(alloc: Global, bytes: &[u8]) -> Result<Event, LineFault>
     ensures exact { Gives LineFault.NoMemory request_of result (reading bytes.now) }
     ensures want { result ≡ Err LineFault.NoMemory → MayWant (reading bytes.now) }
+    ensures takes { result ≡ Err LineFault.NoMemory → words_take (words (content bytes.now)) ≡ true }
 {
     if bytes.len() > LONGEST_LINE {
         return Err(LineFault::LongLine);
@@ -164,6 +168,7 @@ fn first_fault(alloc: Global, bytes: &[u8]) -> Result<Event, LineFault>
 fn read_words(alloc: Global, mut words: Words<'_>) -> Result<Event, LineFault>
     ensures exact { Gives LineFault.NoMemory request_of result (words_in words.entry) }
     ensures want { result ≡ Err LineFault.NoMemory → MayWant (words_in words.entry) }
+    ensures takes { result ≡ Err LineFault.NoMemory → words_take words.entry ≡ true }
 {
     match words.next() {
         None => Ok(Event::Blank),
@@ -175,6 +180,7 @@ fn read_words(alloc: Global, mut words: Words<'_>) -> Result<Event, LineFault>
 fn read_command(alloc: Global, command: &[u8], words: Words<'_>) -> Result<Event, LineFault>
     ensures exact { Gives LineFault.NoMemory request_of result (command_in command.now words.entry) }
     ensures want { result ≡ Err LineFault.NoMemory → MayWant (command_in command.now words.entry) }
+    ensures takes { result ≡ Err LineFault.NoMemory → command_takes command.now ≡ true }
 {
     if command == b"extend".as_slice() {
         read_extend(alloc, words)
@@ -194,6 +200,7 @@ fn read_command(alloc: Global, command: &[u8], words: Words<'_>) -> Result<Event
 fn read_memory_command(alloc: Global, command: &[u8], words: Words<'_>) -> Result<Event, LineFault>
     ensures exact { Gives LineFault.NoMemory request_of result (memory_command_in command.now words.entry) }
     ensures want { result ≡ Err LineFault.NoMemory → MayWant (memory_command_in command.now words.entry) }
+    ensures takes { result ≡ Err LineFault.NoMemory → memory_command_takes command.now ≡ true }
 {
     if command == b"take".as_slice() {
         read_take(words)
@@ -222,7 +229,7 @@ fn read_extend(alloc: Global, words: Words<'_>) -> Result<Event, LineFault>
 
 fn read_read(words: Words<'_>) -> Result<Event, LineFault>
     ensures exact { Gives LineFault.NoMemory request_of result (read_in words.entry) }
-    ensures want { result ≡ Err LineFault.NoMemory → MayWant (read_in words.entry) }
+    ensures plain { result ≢ Err LineFault.NoMemory }
 {
     let number = one(words)?;
     let r = number_in(number)?;
@@ -269,7 +276,7 @@ fn read_image(alloc: Global, words: Words<'_>) -> Result<Event, LineFault>
 
 fn read_take(words: Words<'_>) -> Result<Event, LineFault>
     ensures exact { Gives LineFault.NoMemory request_of result (take_in words.entry) }
-    ensures want { result ≡ Err LineFault.NoMemory → MayWant (take_in words.entry) }
+    ensures plain { result ≢ Err LineFault.NoMemory }
 {
     let number = one(words)?;
     let n = number_in(number)?;
@@ -278,7 +285,7 @@ fn read_take(words: Words<'_>) -> Result<Event, LineFault>
 
 fn read_give(words: Words<'_>) -> Result<Event, LineFault>
     ensures exact { Gives LineFault.NoMemory request_of result (give_in words.entry) }
-    ensures want { result ≡ Err LineFault.NoMemory → MayWant (give_in words.entry) }
+    ensures plain { result ≢ Err LineFault.NoMemory }
 {
     let number = one(words)?;
     let at = number_in(number)?;
@@ -297,7 +304,7 @@ fn read_poke(alloc: Global, words: Words<'_>) -> Result<Event, LineFault>
 
 fn read_peek(words: Words<'_>) -> Result<Event, LineFault>
     ensures exact { Gives LineFault.NoMemory request_of result (peek_in words.entry) }
-    ensures want { result ≡ Err LineFault.NoMemory → MayWant (peek_in words.entry) }
+    ensures plain { result ≢ Err LineFault.NoMemory }
 {
     let (address, count) = two(words)?;
     let at = number_in(address)?;
