@@ -48,7 +48,7 @@ free_here marks spans frame h few =
     let within : frame < length marks = omega (arith, h.count) in
     let here = slice_get-get_or marks frame mark.Free within in
     elim (cases_Bool (is_taken spans frame)) [
-      | inl taken ↦ not_free _ (λ e. taken-not_free marks frame (taken_mark marks spans frame h.held taken) (here ∙ ap Some e)) ∙ sym (ap not taken)
+      | inl taken ↦ not_free _ (λ e. taken-not_free marks frame (taken_mark marks spans frame h.held.held taken) (here ∙ ap Some e)) ∙ sym (ap not taken)
       | inr none ↦ ap is_free (get_or_from_slice_get marks frame mark.Free mark.Free (h.free frame few none)) ∙ sym (ap not none)
     ]
 
@@ -133,12 +133,12 @@ lies_taken marks spans at count h lies =
     let taken = taken-held marks lies.span lies.span.first lies.held inside in
     let few : lies.span.first < frame_count = omega (arith, taken_within marks lies.span.first taken, h.count) in
     elim (cases_Bool (is_taken spans lies.span.first)) [
-      | inl found ↦ among marks spans lies.span lies.span.first at count h.held lies.held inside lies.inside found
+      | inl found ↦ among marks spans lies.span lies.span.first at count h.held.held lies.held inside lies.inside found
       | inr none ↦ absurd (taken-not_free marks lies.span.first taken (h.free lies.span.first few none))
     ]
 
 pub taken_lies : (marks : List Mark) (spans : List HostSpan) (at count : ℕ) → MarksAre marks spans → are_taken spans at count ≡ true → LiesInSpan marks at count
-taken_lies marks spans at count h e = lies_held marks spans at count h.held e
+taken_lies marks spans at count h e = lies_held marks spans at count h.held.held e
 
 pub not_taken : (marks : List Mark) (spans : List HostSpan) (at count : ℕ) → MarksAre marks spans → (LiesInSpan marks at count → ⊥) → are_taken spans at count ≡ false
 not_taken marks spans at count h out = false_from_ne_true _ (λ e. out (taken_lies marks spans at count h e))
@@ -156,7 +156,7 @@ open_here marks spans byte h = elim (cases_lt (frame_of byte) frame_count) [
       ap not (get_or-map is_free marks (frame_of byte) mark.Free true within ∙ free_here marks spans (frame_of byte) h few) ∙ not_twice (is_taken spans (frame_of byte))
   | inr past ↦
       ap not (get_or_past (map is_free marks) (frame_of byte) true (omega (arith, h.count, length-map marks is_free)))
-      ∙ sym (false_from_ne_true _ (λ e. let w = taken_within marks (frame_of byte) (taken_mark marks spans (frame_of byte) h.held e) in omega (arith, h.count)))
+      ∙ sym (false_from_ne_true _ (λ e. let w = taken_within marks (frame_of byte) (taken_mark marks spans (frame_of byte) h.held.held e) in omega (arith, h.count)))
 ]
 
 all_same : (p q : ℕ → Bool) → ((k : ℕ) → p k ≡ q k) → (xs : List ℕ) → list_all p xs ≡ list_all q xs

@@ -6,7 +6,7 @@ use Rattle.std.proofs.lemmas.List.{length-replicate, length-map, map-append, tak
 use Rattle.region_pool.specs.declared.mark.Mark.{Mark}
 use Rattle.region_pool.specs.declared.mark.Mark.TheVariants as mark
 use Rattle.region_pool.specs.Marks.{is_free}
-use Rattle.region_pool.specs.Spans.{Span, end_of, marks_of, Holds, HasFrame, replaced}
+use Rattle.region_pool.specs.Spans.{Span, end_of, marks_of, Holds, IsDisjoint, HasFrame, replaced}
 use Rattle.region_pool.proofs.Frames.{slice_get-replicate}
 use Rattle.region_pool.proofs.FrameSpans.{same_from_frame}
 use Rattle.region_pool.proofs.HeldSpans.{replaces-replaced, stands-from_held, length-marks_of}
@@ -15,9 +15,10 @@ use Rattle.machine_memory.specs.Writes.{written}
 use Rattle.machine_memory.specs.Contents.{Contents, first_byte, frame_count, blank}
 use Rattle.machine_memory.specs.Spans.{after_give}
 use Rattle.flk_run.specs.HostMemory.{HostSpan, HostMemory, blank_memory, has_frame, is_taken, starts_at, with_span, without_span}
-use Rattle.flk_run.specs.Parts.{as_host, MarksAre, MemoryStands}
+use Rattle.flk_run.specs.Parts.{as_host, AreApart, HoldsSpans, MarksAre, MemoryStands}
 use Rattle.flk_run.specs.Taking.{Took}
 use Rattle.flk_run.proofs.MarkLemmas.{frame_from_test, test_from_frame}
+use Rattle.flk_run.proofs.TicketLemmas.{holds_more}
 
 -- ---- exclusion bits
 
@@ -47,11 +48,6 @@ taken_bits s some =
 
 -- ---- a span taken
 
-held_more : (marks new : List Mark) (spans : List HostSpan) (s : HostSpan) → ((other : Span) → Holds marks other → Holds new other) → AllByRecursion (Holds marks) (map as_host spans) → Holds new (as_host s)
-    → AllByRecursion (Holds new) (map as_host (spans ++ s ∷ []))
-held_more marks new [] s stay held last = (last, tt)
-held_more marks new (o ∷ os) s stay held last = (stay (as_host o) held.0, held_more marks new os s stay held.1 last)
-
 not_taken_more : (spans : List HostSpan) (s : HostSpan) (frame : ℕ) → is_taken (spans ++ s ∷ []) frame ≡ false → (is_taken spans frame ≡ false) × (has_frame frame s ≡ false)
 not_taken_more [] s frame e = (refl, (or_parts (has_frame frame s) false e).0)
 not_taken_more (o ∷ os) s frame e =
@@ -60,14 +56,14 @@ not_taken_more (o ∷ os) s frame e =
     (or_from (has_frame frame o) (is_taken os frame) parts.0 rest.0, rest.1)
 
 -- the marks after it
-marks_taken : (marks : List Mark) (spans : List HostSpan) (s : HostSpan) → MarksAre marks spans → 1 ≤ s.frames → s.first + s.frames ≤ length marks → Holds (replaced marks s.first s.frames (marks_of (as_host s))) (as_host s)
-    → ((other : Span) → Holds marks other → Holds (replaced marks s.first s.frames (marks_of (as_host s))) other) → MarksAre (replaced marks s.first s.frames (marks_of (as_host s))) (spans ++ s ∷ [])
-marks_taken marks spans s h some within holds stay =
+marks_taken : (marks : List Mark) (spans : List HostSpan) (s : HostSpan) → MarksAre marks spans → 1 ≤ s.frames → s.first + s.frames ≤ length marks
+    → HoldsSpans (replaced marks s.first s.frames (marks_of (as_host s))) (map as_host spans ++ as_host s ∷ []) → MarksAre (replaced marks s.first s.frames (marks_of (as_host s))) (spans ++ s ∷ [])
+marks_taken marks spans s h some within held =
     let new : List Mark = replaced marks s.first s.frames (marks_of (as_host s)) in
     let r = replaces-replaced marks (as_host s) (marks_of (as_host s)) within (length-marks_of (as_host s) some) in
     record {
       count = r.long ∙ h.count;
-      held = held_more marks new spans s stay h.held holds;
+      held = subst (λ (xs : List Span). HoldsSpans new xs) (sym (map-append as_host spans (s ∷ []))) held;
       free = λ frame few none.
           let parts = not_taken_more spans s frame none in
           elim (cases_lt frame s.first) [
@@ -87,8 +83,8 @@ memory_taken p m new s h some took =
     let Now : Contents → Type 0 = λ c. MemoryStands (with_span s.first s.frames p) c in
     subst Now (sym taken) (record {
       bytes = h.bytes;
-      marks = marks_taken m.marks p.spans s h.marks some within (subst (λ (c : Contents). Holds c.marks (as_host s)) taken took.held)
-          (λ other held. subst (λ (c : Contents). Holds c.marks other) taken (took.others other held));
+      marks = marks_taken m.marks p.spans s h.marks some within
+          (subst (λ (c : Contents). HoldsSpans c.marks (map as_host p.spans ++ as_host s ∷ [])) taken (holds_more s.frames m new (map as_host p.spans) (as_host s) took h.marks.held));
       excluded = ap (λ (bits : List Bool). written bits s.first (replicate s.frames false)) h.excluded
           ∙ tests_replaced m.marks (marks_of (as_host s)) s.first s.frames (replicate s.frames false) (length-marks_of (as_host s) some) (taken_bits s some);
     })
@@ -104,6 +100,20 @@ held_left marks new span (s ∷ ss) stay held = elim (cases_Bool (starts_at (fir
     stay (as_host s) held.0 (λ same. both_ways _ no' (eq-eqb (first_byte s.first) (first_byte span.first) (ap (λ (x : Span). first_byte x.first) same))),
     held_left marks new span ss stay held.1,
   )
+]
+
+all_left : (P : Span → Type 0) (q : HostSpan → Bool) (spans : List HostSpan) → AllByRecursion P (map as_host spans) → AllByRecursion P (map as_host (filter q spans))
+all_left P q [] all = tt
+all_left P q (s ∷ ss) all = elim (cases_Bool (q s)) [
+  | inl yes' ↦ rw yes' (all.0, all_left P q ss all.1)
+  | inr no' ↦ rw no' (all_left P q ss all.1)
+]
+
+apart_left : (q : HostSpan → Bool) (spans : List HostSpan) → AreApart (map as_host spans) → AreApart (map as_host (filter q spans))
+apart_left q [] apart = tt
+apart_left q (s ∷ ss) apart = elim (cases_Bool (q s)) [
+  | inl yes' ↦ rw yes' (all_left (IsDisjoint (as_host s)) q ss apart.0, apart_left q ss apart.1)
+  | inr no' ↦ rw no' (apart_left q ss apart.1)
 ]
 
 not_taken_left : (marks : List Mark) (span : HostSpan) (spans : List HostSpan) (frame : ℕ) → Holds marks (as_host span) → AllByRecursion (Holds marks) (map as_host spans) → (HasFrame (as_host span) frame → ⊥)
@@ -130,12 +140,12 @@ marks_given marks spans s h holds stay =
     let r = replaces-replaced marks (as_host s) (replicate s.frames mark.Free) (stands-from_held marks (as_host s) holds).within (length-replicate s.frames mark.Free) in
     record {
       count = r.long ∙ h.count;
-      held = held_left marks new s spans stay h.held;
+      held = record { held = held_left marks new s spans stay h.held.held; apart = apart_left (λ other. not (starts_at (first_byte s.first) other)) spans h.held.apart };
       free = λ frame few none. elim (cases_lt frame s.first) [
-        | inl l ↦ r.below frame l ∙ h.free frame few (not_taken_left marks s spans frame holds h.held (λ f. let b = f.begun in absurd (omega arith)) none)
+        | inl l ↦ r.below frame l ∙ h.free frame few (not_taken_left marks s spans frame holds h.held.held (λ f. let b = f.begun in absurd (omega arith)) none)
         | inr l ↦ elim (cases_lt frame (end_of (as_host s))) [
           | inl u ↦ r.inside (frame - s.first) frame (omega arith) (omega arith) ∙ slice_get-replicate s.frames mark.Free (frame - s.first) (omega arith)
-          | inr u ↦ r.above frame u ∙ h.free frame few (not_taken_left marks s spans frame holds h.held (λ f. let b = f.unended in absurd (omega arith)) none)
+          | inr u ↦ r.above frame u ∙ h.free frame few (not_taken_left marks s spans frame holds h.held.held (λ f. let b = f.unended in absurd (omega arith)) none)
         ]
       ];
     }
@@ -164,6 +174,6 @@ memory_written p m new at bytes h is =
 pub memory_blank : MemoryStands blank_memory blank
 memory_blank = record {
   bytes = refl;
-  marks = record { count = length-replicate frame_count mark.Free; held = tt; free = λ frame few none. slice_get-replicate frame_count mark.Free frame few };
+  marks = record { count = length-replicate frame_count mark.Free; held = record { held = tt; apart = tt }; free = λ frame few none. slice_get-replicate frame_count mark.Free frame few };
   excluded = sym (all_free frame_count);
 }

@@ -44,7 +44,7 @@ are_taken spans at count = list_any (has_bytes at count) spans
 
 -- each of so many bytes from an address on lies in a span, so a device may write it
 abbrev pub are_open : List HostSpan → ℕ → ℕ → Bool
-are_open spans at count = list_all (λ place. is_taken spans (frame_of place)) (range_with_len at count)
+are_open spans at count = list_all (λ byte. is_taken spans (frame_of byte)) (range_with_len at count)
 
 -- memory once a span of so many frames was taken; its bytes are zero already
 abbrev pub with_span : ℕ → ℕ → HostMemory → HostMemory

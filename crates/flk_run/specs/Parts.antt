@@ -20,6 +20,10 @@ pub record BoardParts : Type 0 where
   pub registers : List (List ℕ)
   pub memory : Contents
 
+-- a disk after power-on: it has no contents yet
+abbrev pub blank_disk : SimDisk
+blank_disk = record {}
+
 -- a board and a disk
 pub record Machine : Type 0 where
   pub board : BoardParts
@@ -55,10 +59,10 @@ pub record HoldsSpans (marks : List Mark) (spans : List Span) : Type 0 where
 abbrev pub as_host : HostSpan → Span
 as_host span = record { first = span.first; frames = span.frames; purpose = Host }
 
--- the marks of all frames are those of the spans: each span is held, and a frame in none of them is free
+-- the marks of all frames are those of the spans: the spans are held, and a frame in none of them is free
 pub record MarksAre (marks : List Mark) (spans : List HostSpan) : Type 0 where
   pub count : length marks ≡ frame_count
-  pub held : AllByRecursion (Holds marks) (map as_host spans)
+  pub held : HoldsSpans marks (map as_host spans)
   pub free : (frame : ℕ) → frame < frame_count → is_taken spans frame ≡ false → slice_get marks frame ≡ Some Free
 
 -- ---- the platform

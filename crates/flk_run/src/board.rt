@@ -134,8 +134,13 @@ impl Board {
 pub struct SimDisk {}
 
 impl SimDisk {
+    ghost use Rattle.std.specs.Prelude.{◌≡◌, IfOk};
+    ghost use Rattle.flk_run.specs.Parts.{blank_disk};
+
     /// The disk after power-on.
-    pub fn blank(_alloc: Global) -> Result<SimDisk, NoMemory> {
+    pub fn blank(_alloc: Global) -> Result<SimDisk, NoMemory>
+        ensures { IfOk result (λ disk. disk ≡ blank_disk) }
+    {
         Ok(SimDisk {})
     }
 
