@@ -1,6 +1,6 @@
 -- What an extend does to the values of chains.
-use Rattle.std.proofs.Common.{◌≡◌, ℕ, ◌<◌, ◌≤◌, true, List, [], ◌++◌, length, map, refl, sym, ap, subst, ◌∙◌, arith}
-use Rattle.std.specs.Prelude.{◌∷◌, ◌==◌, slice_index_or, slice_set, nat_lt, Option, Some, None, Result, Ok, Err, ◌↔◌}
+use Rattle.std.proofs.Common.{◌≡◌, inl, inr, ℕ, ◌<◌, ◌≤◌, true, false, List, [], ◌++◌, length, map, refl, sym, ap, subst, ◌∙◌, arith}
+use Rattle.std.specs.Prelude.{◌⊎◌, ◌∷◌, ◌==◌, slice_index_or, slice_set, nat_lt, Option, Some, None, Result, Ok, Err, IsOk, ◌↔◌}
 use Rattle.slb_image.specs.declared.fault.ImageFault.{ImageFault}
 use Rattle.std.proofs.lemmas.List.{map-set, get_or-map, length-set}
 use Rattle.std.proofs.lemmas.Bool.Decides.{nat_tests}
@@ -11,11 +11,16 @@ use Rattle.script_text.specs.Variables.{Table}
 use Rattle.flk_run.specs.declared.board.SimDisk.{SimDisk}
 use Rattle.flk_run.specs.Platform.{Platform}
 use Rattle.script_text.specs.Grammar.{Request}
+use Rattle.script_text.specs.Expressions.{Term}
+use Rattle.script_text.specs.Values.{longest_value, value_of}
+use Rattle.script_text.specs.declared.value.ExprFault.TheVariants.{NoMemory}
+use Rattle.script_text.proofs.ValueLemmas.{never_memory}
+use Rattle.script_text.specs.declared.value.ExprFault.{ExprFault}
 use Rattle.flk_run.specs.Answers.{Done, line_of}
-use Rattle.flk_run.specs.Tasks.{Task, task_of}
+use Rattle.flk_run.specs.Tasks.{Task, Rest, Refuse, Extend, Read, Bind, Show, BindImage, Take, Give, Poke, Peek, Dma, TakesMemory, given, imaged, peeked, task_of}
 use Rattle.flk_run.specs.Events.{host_front, extended_by_host, done, step}
 use Rattle.flk_run.specs.Parts.{BoardParts, Experiment, MemoryStands, IsAt, experiment}
-use Rattle.flk_run.specs.Seen.{StepDone}
+use Rattle.flk_run.specs.Seen.{StepDone, binds, takes}
 
 -- an extend of the values is one of the chains
 extended_chains : (chains : List Chain) (r : ℕ) (text : List ℕ) → r < length chains
@@ -72,3 +77,51 @@ nothing (x ∷ xs) h = absurd (omega (arith, h))
 -- an answer without bytes is no line
 pub no_line : (line made : List ℕ) → made ≡ line → true ≡ (length made == 0) → line ≡ []
 no_line line made same empty = sym same ∙ nothing made (grind (arith, nat_tests, empty))
+
+-- ---- tasks that take memory
+
+-- that of an expression takes some, if it does with each value
+pub takes_given : (value : Result (List ℕ) ExprFault) (task : List ℕ → Task) → ((bytes : List ℕ) → TakesMemory (task bytes)) → IsOk value → TakesMemory (given value task)
+takes_given (Ok bytes) task each has = each bytes
+takes_given (Err fault) task each has = absurd (cc)
+
+-- an image takes some, and its fault
+pub takes_imaged : (name : List ℕ) (fault : Option ImageFault) (image : List ℕ) → TakesMemory (imaged name fault image)
+takes_imaged name None image = tt
+takes_imaged name (Some fault) image = tt
+
+pub takes_peeked : (at count : ℕ) → count ≤ longest_value → TakesMemory (peeked at count)
+takes_peeked at count few = let short : nat_lt longest_value count ≡ false = grind (arith, nat_tests) in rw short tt
+
+pub takes_bound : (task : Task) → binds task ≡ true → TakesMemory task
+takes_bound (Bind name value) h = tt
+takes_bound (BindImage name image) h = tt
+takes_bound Rest h = absurd (cc)
+takes_bound (Refuse why) h = absurd (cc)
+takes_bound (Extend r text) h = tt
+takes_bound (Read r) h = absurd (cc)
+takes_bound (Show bytes) h = tt
+takes_bound (Take frames) h = tt
+takes_bound (Give at) h = absurd (cc)
+takes_bound (Poke at bytes) h = tt
+takes_bound (Peek at count) h = tt
+takes_bound (Dma at bytes) h = tt
+
+pub takes_taken : (task : Task) → takes task ≡ true → TakesMemory task
+takes_taken (Bind name value) h = tt
+takes_taken (BindImage name image) h = tt
+takes_taken Rest h = absurd (cc)
+takes_taken (Refuse why) h = absurd (cc)
+takes_taken (Extend r text) h = tt
+takes_taken (Read r) h = absurd (cc)
+takes_taken (Show bytes) h = tt
+takes_taken (Take frames) h = tt
+takes_taken (Give at) h = absurd (cc)
+takes_taken (Poke at bytes) h = tt
+takes_taken (Peek at count) h = tt
+takes_taken (Dma at bytes) h = tt
+
+-- an expression for which memory was wanting has a value
+pub has_value : (fault : ExprFault) (terms : List Term) (table : Table) → fault ≡ NoMemory → ((fault ≡ NoMemory) × IsOk (value_of terms table)) ⊎ (value_of terms table ≡ Err fault) → IsOk (value_of terms table)
+has_value fault terms table want (inl found) = found.1
+has_value fault terms table want (inr bad) = absurd (never_memory terms table (bad ∙ ap (λ (f : ExprFault). Err f) want))

@@ -1,5 +1,5 @@
 -- How clauses see what the code holds while it does an event.
-use Rattle.std.specs.Prelude.{◌≡◌, ℕ, ◌+◌, ◌*◌, ◌≤◌, List, ◌++◌, length, Bool, true, false}
+use Rattle.std.specs.Prelude.{◌≡◌, ℕ, ◌≤◌, List, ◌++◌, length, Bool, true, false}
 use Rattle.script_text.specs.Grammar.{Request}
 use Rattle.script_text.specs.Seen.{IsShortName}
 use Rattle.script_text.specs.Values.{longest_value}
@@ -50,12 +50,6 @@ binds _ = false
 abbrev pub takes : Task → Bool
 takes (Take frames) = true
 takes _ = false
-
--- the room that the line of a task's answer may need
-abbrev pub room : Task → ℕ
-room (Show bytes) = 64 + 2 * length bytes
-room (Peek at count) = 64 + 2 * count
-room _ = 104
 
 -- a step was done, and its line is written behind what was there
 pub record StepDone (n : ℕ) (s : Step) (new : Experiment) (out out' : List ℕ) : Type 0 where

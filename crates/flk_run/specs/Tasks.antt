@@ -1,5 +1,5 @@
 -- What an event comes to once its expressions have their values, which is first.
-use Rattle.std.specs.Prelude.{ℕ, nat_lt, List, Option, Some, None, Result, Ok, Err, if◌then◌else◌}
+use Rattle.std.specs.Prelude.{ℕ, ◌+◌, ◌*◌, nat_lt, List, length, Option, Some, None, Result, Ok, Err, if◌then◌else◌}
 use Rattle.script_text.specs.Expressions.{Term}
 use Rattle.script_text.specs.Variables.{Table}
 use Rattle.script_text.specs.Values.{value_of, longest_value}
@@ -27,6 +27,23 @@ pub data Task : Type 0 where
   Poke : (at : ℕ) → (bytes : List ℕ) → Task
   Peek : (at : ℕ) → (count : ℕ) → Task
   Dma : (at : ℕ) → (bytes : List ℕ) → Task
+
+-- the room that is made for the line of a task's answer; nothing has no line
+abbrev pub room : Task → ℕ
+room Rest = 0
+room (Show bytes) = 64 + 2 * length bytes
+room (Peek at count) = 64 + 2 * count
+room other = 104
+
+-- beside that room, a task takes memory: for a value, for a name, for bytes of memory to show, or for a ticket. A
+-- refusal takes none, but an image's fault is found in its code's value
+abbrev pub TakesMemory : Task → Type 0
+TakesMemory Rest = ⊥
+TakesMemory (Refuse (NoImage fault)) = Unit {0}
+TakesMemory (Refuse why) = ⊥
+TakesMemory (Read r) = ⊥
+TakesMemory (Give at) = ⊥
+TakesMemory other = Unit {0}
 
 -- the task for a value; the fault of an expression that has none is the answer
 abbrev pub given : Result (List ℕ) ExprFault → (List ℕ → Task) → Task

@@ -1,14 +1,14 @@
 // What an event does to the board and the variables.
-ghost use Rattle.std.specs.Prelude.{◌≡◌, ◌≤◌, ◌+◌, ◌*◌, List, length, true, vec_len, vec_capacity, OnOk};
+ghost use Rattle.std.specs.Prelude.{◌≡◌, ◌≤◌, ◌+◌, ◌*◌, List, length, true, false, vec_len, vec_capacity, IsOk, OnOk};
 ghost use Rattle.script_text.specs.Seen.{request_of, HasShortName, IsShortName};
 ghost use Rattle.region_pool.specs.Spans.{Span};
 ghost use Rattle.flk_run.specs.declared.board.SimDisk.{SimDisk as DiskView};
 ghost use Rattle.flk_run.specs.Platform.{Platform};
 ghost use Rattle.flk_run.specs.Events.{done, extended_by_host, register_shown};
-ghost use Rattle.flk_run.specs.Tasks.{Bind, BindImage};
+ghost use Rattle.flk_run.specs.Tasks.{Bind, BindImage, room, task_of, TakesMemory};
 ghost use Rattle.flk_run.specs.Parts.{BoardParts, HoldsSpans, IsAt, experiment};
 ghost use Rattle.script_text.specs.Variables.{Table};
-ghost use Rattle.flk_run.specs.Seen.{seen, room, binds, takes, IsNamed, StepDone, EventStepped};
+ghost use Rattle.flk_run.specs.Seen.{seen, binds, takes, IsNamed, StepDone, EventStepped};
 
 use crate::answers::{Refusal, put_count, put_done, put_refusal, put_value};
 use crate::board::Board;
@@ -39,6 +39,8 @@ pub(crate) fn do_event(
         (experiment board.new disk vars.new.table tickets.new.items)
         answer.old.bytes answer.new.bytes }
     ensures held { HoldsSpans board.new.memory.marks tickets.new.items }
+    ensures want { result ≡ StepEnd.NoMemory → room (task_of (request_of event.now) vars.old.table) ≤ answer.old.spare
+        → TakesMemory (task_of (request_of event.now) vars.old.table) }
 {
     let Ok(task) = task_of(alloc, event, vars) else {
         return StepEnd::NoMemory;
@@ -60,6 +62,7 @@ pub(crate) fn do_event(
 fn room_for_name(task: &Task<'_>, vars: &mut Vars) -> Result<(), NoMemory>
     ensures table { vars.new.table ≡ vars.old.table }
     ensures room { OnOk result (binds (seen task.now) ≡ true → 1 ≤ vars.new.spare) }
+    ensures unwanted { binds (seen task.now) ≡ false → IsOk result }
 {
     if task.binds() {
         return vars.room();
@@ -71,6 +74,7 @@ fn room_for_name(task: &Task<'_>, vars: &mut Vars) -> Result<(), NoMemory>
 fn room_for_span(task: &Task<'_>, tickets: &mut Vec<Ticket>) -> Result<(), NoMemory>
     ensures kept { tickets.new.items ≡ tickets.old.items }
     ensures room { OnOk result (takes (seen task.now) ≡ true → vec_len tickets.new + 1 ≤ vec_capacity tickets.new) }
+    ensures unwanted { takes (seen task.now) ≡ false → IsOk result }
 {
     if task.takes() {
         return room_for_ticket(tickets);

@@ -41,12 +41,13 @@ impl Model for Runner {
 }
 
 impl Runner {
-    ghost use Rattle.std.specs.Prelude.{◌≡◌, [], ◌++◌};
+    ghost use Rattle.std.specs.Prelude.{◌≡◌, ◌≤◌, [], ◌++◌, map};
     ghost use Rattle.std.specs.FinMap.{empty};
+    ghost use Rattle.flk_run.specs.Tasks.{room, task_of, TakesMemory};
     ghost use Rattle.script_text.specs.Seen.{request_of, HasShortName};
     ghost use Rattle.flk_run.specs.Platform.{Platform};
     ghost use Rattle.flk_run.specs.Events.{after, transcript_line};
-    ghost use Rattle.flk_run.specs.Parts.{IsAt, HoldsSpans};
+    ghost use Rattle.flk_run.specs.Parts.{as_host, IsAt, HoldsSpans};
 
     /// A runner over this board and disk, with no name bound and no span taken.
     pub fn new(alloc: Global, board: Board, disk: SimDisk) -> Runner
@@ -77,6 +78,9 @@ impl Runner {
         // Want of memory leaves all as it was.
         ensures kept { result.1 ≡ StepEnd.NoMemory → result.0 ≡ self }
         ensures unwritten { result.1 ≡ StepEnd.NoMemory → answer.new.bytes ≡ answer.old.bytes }
+        // Where there is room for its line, memory runs out only at a task that takes some.
+        ensures want { result.1 ≡ StepEnd.NoMemory → room (task_of (request_of event.now) self.variables) ≤ answer.old.spare
+            → TakesMemory (task_of (request_of event.now) self.variables) }
     {
         let Runner {
             mut board,
@@ -109,6 +113,8 @@ impl Runner {
         ensures board { result.0 ≡ self.machine.board }
         ensures disk { result.1 ≡ self.machine.disk }
         ensures spans { result.2 ≡ self.spans }
+        // They are all that the platform has.
+        ensures all { (p : Platform) → IsAt p self → result.2 ≡ map as_host p.memory.spans }
         ensures held { HoldsSpans result.0.memory.marks result.2 }
     {
         let Runner {

@@ -1,10 +1,11 @@
 // What an event comes to once its expressions have their values.
-ghost use Rattle.std.specs.Prelude.{◌≡◌, ◌≢◌, length, replicate, IfOk};
+ghost use Rattle.std.specs.Prelude.{◌≡◌, ◌≢◌, ◌≤◌, length, replicate, IfOk, IsOk, IsErr};
+ghost use Rattle.script_text.specs.Values.{value_of, longest_value};
 ghost use Rattle.script_text.specs.Seen.{request_of, HasShortName};
 ghost use Rattle.slb_image.specs.Faults.{build_fault};
 ghost use Rattle.slb_image.specs.Image.{pack};
-ghost use Rattle.flk_run.specs.Tasks.{Refuse, Extend, Bind, Show, Poke, Dma, evaluated, imaged, peeked, task_of};
-ghost use Rattle.flk_run.specs.Seen.{seen, room, binds, takes, IsNamed, IsShown};
+ghost use Rattle.flk_run.specs.Tasks.{Refuse, Extend, Bind, Show, Poke, Dma, evaluated, imaged, peeked, room, task_of, TakesMemory};
+ghost use Rattle.flk_run.specs.Seen.{seen, binds, takes, IsNamed, IsShown};
 
 use crate::answers::Refusal;
 use flk_base::{Bytes, NoMemory};
@@ -52,7 +53,8 @@ pub(crate) enum Task<'e> {
 
 // The answer that an expression has no value; want of memory is none.
 fn refused(fault: ExprFault) -> Result<Task<'static>, NoMemory>
-    ensures { IfOk result (λ task. (seen task ≡ Refuse (Refusal.NoValue fault)) × (fault ≢ ExprFault.NoMemory)) }
+    ensures refused { IfOk result (λ task. (seen task ≡ Refuse (Refusal.NoValue fault)) × (fault ≢ ExprFault.NoMemory)) }
+    ensures want { IsErr result → fault ≡ ExprFault.NoMemory }
 {
     match fault {
         ExprFault::NoMemory => return Err(NoMemory),
@@ -63,7 +65,8 @@ fn refused(fault: ExprFault) -> Result<Task<'static>, NoMemory>
 }
 
 fn extend_task(alloc: Global, r: u32, text: &Expr, vars: &Vars) -> Result<Task<'static>, NoMemory>
-    ensures { IfOk result (λ task. seen task ≡ evaluated text.now vars.now.table (λ bytes. Extend r bytes)) }
+    ensures task { IfOk result (λ task. seen task ≡ evaluated text.now vars.now.table (λ bytes. Extend r bytes)) }
+    ensures want { IsErr result → IsOk (value_of text.now vars.now.table) }
 {
     match text.value(alloc, vars) {
         Ok(text) => return Ok(Task::Extend { r, text }),
@@ -77,7 +80,8 @@ fn bind_task<'e>(
     value: &Expr,
     vars: &Vars,
 ) -> Result<Task<'e>, NoMemory>
-    ensures { IfOk result (λ task. seen task ≡ evaluated value.now vars.now.table (λ bytes. Bind name.now bytes)) }
+    ensures task { IfOk result (λ task. seen task ≡ evaluated value.now vars.now.table (λ bytes. Bind name.now bytes)) }
+    ensures want { IsErr result → IsOk (value_of value.now vars.now.table) }
 {
     match value.value(alloc, vars) {
         Ok(value) => return Ok(Task::Bind { name, value }),
@@ -87,6 +91,7 @@ fn bind_task<'e>(
 
 fn show_task(alloc: Global, value: &Expr, vars: &Vars) -> Result<Task<'static>, NoMemory>
     ensures task { IfOk result (λ task. seen task ≡ evaluated value.now vars.now.table (λ bytes. Show bytes)) }
+    ensures want { IsErr result → IsOk (value_of value.now vars.now.table) }
     ensures shown { IfOk result (λ task. IsShown (seen task)) }
 {
     match value.value(alloc, vars) {
@@ -126,8 +131,9 @@ fn image_task<'e>(
     code: &Expr,
     vars: &Vars,
 ) -> Result<Task<'e>, NoMemory>
-    ensures { IfOk result (λ task. seen task ≡ evaluated code.now vars.now.table (λ bytes.
+    ensures task { IfOk result (λ task. seen task ≡ evaluated code.now vars.now.table (λ bytes.
         imaged name.now (build_fault front.entry front.budget bytes) (pack front.entry front.budget front.job bytes))) }
+    ensures want { IsErr result → IsOk (value_of code.now vars.now.table) }
 {
     match code.value(alloc, vars) {
         Ok(code) => return image_of(alloc, name, front, code.as_slice()),
@@ -136,7 +142,8 @@ fn image_task<'e>(
 }
 
 fn poke_task(alloc: Global, at: u32, bytes: &Expr, vars: &Vars) -> Result<Task<'static>, NoMemory>
-    ensures { IfOk result (λ task. seen task ≡ evaluated bytes.now vars.now.table (λ value. Poke at value)) }
+    ensures task { IfOk result (λ task. seen task ≡ evaluated bytes.now vars.now.table (λ value. Poke at value)) }
+    ensures want { IsErr result → IsOk (value_of bytes.now vars.now.table) }
 {
     match bytes.value(alloc, vars) {
         Ok(bytes) => return Ok(Task::Poke { at, bytes }),
@@ -147,6 +154,7 @@ fn poke_task(alloc: Global, at: u32, bytes: &Expr, vars: &Vars) -> Result<Task<'
 fn peek_task(alloc: Global, at: u32, count: u32) -> Result<Task<'static>, NoMemory>
     ensures task { IfOk result (λ task. seen task ≡ peeked at count) }
     ensures shown { IfOk result (λ task. IsShown (seen task)) }
+    ensures want { IsErr result → count ≤ longest_value }
 {
     let count = count as usize;
     if count > LONGEST_VALUE {
@@ -159,7 +167,8 @@ fn peek_task(alloc: Global, at: u32, count: u32) -> Result<Task<'static>, NoMemo
 }
 
 fn dma_task(alloc: Global, at: u32, bytes: &Expr, vars: &Vars) -> Result<Task<'static>, NoMemory>
-    ensures { IfOk result (λ task. seen task ≡ evaluated bytes.now vars.now.table (λ value. Dma at value)) }
+    ensures task { IfOk result (λ task. seen task ≡ evaluated bytes.now vars.now.table (λ value. Dma at value)) }
+    ensures want { IsErr result → IsOk (value_of bytes.now vars.now.table) }
 {
     match bytes.value(alloc, vars) {
         Ok(bytes) => return Ok(Task::Dma { at, bytes }),
@@ -178,6 +187,7 @@ pub(crate) fn task_of<'e>(
     ensures task { IfOk result (λ task. seen task ≡ task_of (request_of event.now) vars.now.table) }
     ensures named { IfOk result (λ task. IsNamed (seen task)) }
     ensures shown { IfOk result (λ task. IsShown (seen task)) }
+    ensures want { IsErr result → TakesMemory (task_of (request_of event.now) vars.now.table) }
 {
     match event {
         Event::Blank => return Ok(Task::Rest),
@@ -214,6 +224,7 @@ impl Task<'_> {
         ensures { result ≡ room (seen self.now) }
     {
         match self {
+            Task::Rest => 0,
             Task::Show { value } => LINE_ROOM + 2 * value.as_slice().len(),
             Task::Peek { at: _, bytes } => LINE_ROOM + 2 * bytes.len(),
             _ => REGISTER_ROOM,
