@@ -1,14 +1,15 @@
 -- How far a run came, line by line, and what its ends say. The run began with experiment `from`, and is at
 -- `at`, where it has written to `b` of what out held, `a`.
 use Rattle.std.proofs.Common.{◌≡◌, ◌≢◌, inl, inr, ℕ, ◌+◌, ◌-◌, ◌<◌, ◌≤◌, Bool, true, false, List, [], ◌∷◌, ◌++◌, length, refl, sym, ap, subst, ◌∙◌, append_assoc, append-nil, length-append, arith}
-use Rattle.std.specs.Prelude.{Option, Some, None, Ok, Err}
+use Rattle.std.specs.Prelude.{Option, Some, None, Result, Ok, Err, nat_lt, slice_get}
 use Rattle.std.specs.Io.KnownBytes.{Appends, Consumes, IsAtEnd}
+use Rattle.std.proofs.lemmas.Bool.Decides.{nat_tests}
 use Rattle.std.proofs.KnownBytes.{Appends-nil, Appends-trans, Consumes-nil, Consumes-trans}
 use Rattle.flk_base.specs.Told.{AppendsWhereTold}
-use Rattle.script_text.specs.Grammar.{Request}
+use Rattle.script_text.specs.Grammar.{Request, Nothing, ExtendBy, ReadOf, LetBe, ShowOf, ImageOf, TakeOf, GiveAt, PokeAt, PeekAt, DmaAt}
 use Rattle.script_text.specs.Lines.{longest_line, most_lines, script_lines, lines_from, behind_lines}
 use Rattle.script_text.specs.Reader.{Held, TakenUntilFault, HasLongFront, GivesFirst, read_size}
-use Rattle.script_text.specs.Reading.{judged, reading}
+use Rattle.script_text.specs.Reading.{judged, reading, as_bad, IsEarly}
 use Rattle.script_text.specs.declared.reader.LineEnd.TheVariants as line
 use Rattle.script_text.specs.declared.line.BadLine.{BadLine}
 use Rattle.script_text.specs.declared.line.BadLine.TheVariants.{Faulty, TooMany}
@@ -20,9 +21,9 @@ use Rattle.flk_run.specs.declared.run.LineRun.TheVariants as run
 use Rattle.flk_run.specs.Platform.{Platform}
 use Rattle.flk_run.specs.Events.{after, transcript_line, transcript, after_all}
 use Rattle.flk_run.specs.Parts.{Experiment, IsAt}
-use Rattle.flk_run.specs.Script.{good_requests, first_bad}
+use Rattle.flk_run.specs.Script.{good_requests, first_bad, MayRunOut}
 use Rattle.flk_run.specs.Runs.{Takes, IsNear, Written, AllWritten, LineCut, AllDone, ReadShort, WrittenShort, Wanting}
-use Rattle.flk_run.specs.LineRuns.{AppendsPart, PutRan, EventDone, EventCut, NotBegun, EventRan, LineRan}
+use Rattle.flk_run.specs.LineRuns.{AppendsPart, PutRan, EventDone, EventCut, NotBegun, IsDone, IsCut, LineRan}
 use Rattle.flk_run.proofs.ScriptLemmas.{good-append, length-good, bad_behind, good_behind, one_more, transcript-append, after_all-append, judged_good, judged_long, judged_many}
 use Rattle.flk_run.proofs.SplitLemmas.{Split, Stepped, Goes, nothing_held, split_begins, split_line, split_all, given_first, more_goes, behind_fewer, the_end, tells_end, tells_all, seen_end, told_then, open_rest}
 
@@ -47,6 +48,15 @@ begins source a from = record {
 
 -- ---- one line more
 
+-- a line that was done asks for a request
+done_asks : (n : ℕ) (line : Result Request BadLine) (b c : Option (List ℕ)) (mid at : Experiment) → IsDone n line b c mid at → (request : Request) × (line ≡ Ok request) × ((p : Platform) → IsAt p mid → EventDone n request p b c at)
+done_asks n (Ok request) b c mid at done = (request, refl, done)
+done_asks n (Err bad) b c mid at done = absurd done
+
+cut_asks : (n : ℕ) (line : Result Request BadLine) (b c : Option (List ℕ)) (mid at : Experiment) → IsCut n line b c mid at → (request : Request) × (line ≡ Ok request) × ((p : Platform) → IsAt p mid → EventCut n request p b c at)
+cut_asks n (Ok request) b c mid at cut = (request, refl, cut)
+cut_asks n (Err bad) b c mid at cut = absurd cut
+
 -- a request more is done and written
 written_more : (n : ℕ) (before : List Request) (request : Request) (p : Platform) (a b c : Option (List ℕ)) (mid new : Experiment) → length before + 1 ≡ n
     → Written before p a b mid → EventDone n request (after_all before p) b c new → Written (before ++ request ∷ []) p a c new
@@ -64,8 +74,9 @@ written_more n before request p a b c mid new count w d =
 
 -- a line was given, done and written
 pub line_done : (k : ℕ) (old new : Held) (s t u a b c : Option (List ℕ)) (from mid at : Experiment)
-    → Progress k old s t a b from mid → Stepped line.Line old new t u → LineRan run.Done (k + 1) new.line b c mid at → Progress (k + 1) new s u a c from at
-line_done k old new s t u a b c from mid at g step ran =
+    → Progress k old s t a b from mid → Stepped line.Line old new t u → LineRan run.Done (k + 1) (judged (k + 1) new.line) b c mid at → Progress (k + 1) new s u a c from at
+line_done k old new s t u a b c from mid at g step done =
+    let ran = done_asks (k + 1) (judged (k + 1) new.line) b c mid at done in
     let n : length (good_requests 1 g.lines) + 1 ≡ k + 1 = omega (arith, length-good 1 g.lines g.good, g.split.count) in
     let requests : good_requests 1 (g.lines ++ new.line ∷ []) ≡ good_requests 1 g.lines ++ ran.0 ∷ [] = (good_behind k g.lines new.line [] ran.0 g.split.count g.good ran.1).good in
     record {
@@ -249,18 +260,14 @@ unwritten : (requests : List Request) (a b c : Option (List ℕ)) (from mid at :
 unwritten requests a b c from mid at all n = subst (λ o. AllWritten requests a o from at) (sym n.unwritten) (subst (λ m. AllWritten requests a b from m) (sym n.kept) all)
 
 -- a line ended as its event did
-pub line_of_event : (end : LineRun) (n : ℕ) (text : List ℕ) (request : Request) (a b : Option (List ℕ)) (from at : Experiment) → n ≤ most_lines → reading text ≡ Ok request → EventRan end n request a b from at
-    → LineRan end n text a b from at
-line_of_event run.Done n text request a b from at few h e = (request, judged_good n text request few h, e)
-line_of_event run.WriteFault n text request a b from at few h e = (request, judged_good n text request few h, e)
-line_of_event run.NoMemory n text request a b from at few h (inl left) = inl left
-line_of_event run.NoMemory n text request a b from at few h (inr cut) = inr (request, judged_good n text request few h, cut)
-line_of_event (run.Bad f) n text request a b from at few h e = absurd e
+pub line_of_event : (end : LineRun) (n : ℕ) (text : List ℕ) (request : Request) (a b : Option (List ℕ)) (from at : Experiment) → n ≤ most_lines → reading text ≡ Ok request → LineRan end n (Ok request) a b from at
+    → LineRan end n (judged n text) a b from at
+line_of_event end n text request a b from at few h ran = subst (λ (line : Result Request BadLine). LineRan end n line a b from at) (sym (judged_good n text request few h)) ran
 
 -- the line that was given is bad
 pub line_bad : (k : ℕ) (old new : Held) (s t u a b c : Option (List ℕ)) (from mid at : Experiment) (f : LineFault)
     → Progress k old s t a b from mid → Stepped line.Line old new t u → (new.ended ≡ true → IsAtEnd u) → length new.bytes ≤ read_size
-    → LineRan (run.Bad f) (k + 1) new.line b c mid at → AllDone (Some (k + 1, Faulty f)) s u a c from at
+    → LineRan (run.Bad f) (k + 1) (judged (k + 1) new.line) b c mid at → AllDone (Some (k + 1, Faulty f)) s u a c from at
 line_bad k old new s t u a b c from mid at f g step at_end near ran =
     let v = given k old new s t u a b from mid g step at_end near in
     let all : AllDone (Some (k + 1, Faulty f)) s u a b from mid =
@@ -302,8 +309,9 @@ cut_line n before request p a b c mid at count w cut =
 -- the transcript line of the line that was given is not whole
 pub line_cut : (k : ℕ) (old new : Held) (s t u a b c : Option (List ℕ)) (from mid at : Experiment)
     → Progress k old s t a b from mid → Stepped line.Line old new t u → (new.ended ≡ true → IsAtEnd u) → length new.bytes ≤ read_size
-    → LineRan run.WriteFault (k + 1) new.line b c mid at → WrittenShort s u a c from at
-line_cut k old new s t u a b c from mid at g step at_end near ran =
+    → IsCut (k + 1) (judged (k + 1) new.line) b c mid at → WrittenShort s u a c from at
+line_cut k old new s t u a b c from mid at g step at_end near cut =
+    let ran = cut_asks (k + 1) (judged (k + 1) new.line) b c mid at cut in
     let v = given k old new s t u a b from mid g step at_end near in
     let n : length (good_requests 1 g.lines) + 1 ≡ k + 1 = omega (arith, length-good 1 g.lines g.good, g.split.count) in
     record {
@@ -320,21 +328,35 @@ line_cut k old new s t u a b c from mid at g step at_end near ran =
       near = subst (λ i. length (behind_lines i (g.taken ++ step.taken)) ≤ read_size) (sym n) v.near;
     }
 
+-- the line behind so many
+get_behind : (lines : List (List ℕ)) (line : List ℕ) (more : List (List ℕ)) → slice_get (lines ++ line ∷ more) (length lines) ≡ Some line
+get_behind [] line more = refl
+get_behind (other ∷ lines) line more = get_behind lines line more
+
 -- memory ran out before the line that was given, or while its transcript line was written
 pub line_wants : (k : ℕ) (old new : Held) (s t u a b c : Option (List ℕ)) (from mid at : Experiment)
     → Progress k old s t a b from mid → Stepped line.Line old new t u → (new.ended ≡ true → IsAtEnd u) → length new.bytes ≤ read_size
-    → LineRan run.NoMemory (k + 1) new.line b c mid at → Wanting s u a c from at
+    → LineRan run.NoMemory (k + 1) (judged (k + 1) new.line) b c mid at → Wanting s u a c from at
 line_wants k old new s t u a b c from mid at g step at_end near (inl left) =
     let v = given k old new s t u a b from mid g step at_end near in
+    let before = good_requests 1 g.lines in
+    let rest = lines_from (k + 1) new.bytes v.ended in
+    let count : length before ≡ length g.lines = length-good 1 g.lines g.good in
+    let n : length before + 1 ≡ k + 1 = omega (arith, g.split.count) in
+    let here : slice_get (script_lines (g.taken ++ step.taken) v.ended) (length before) ≡ Some new.line =
+    ap (λ (ls : List (List ℕ)). slice_get ls (length before)) v.lines_of ∙ ap (λ (i : ℕ). slice_get (g.lines ++ new.line ∷ rest) i) count ∙ get_behind g.lines new.line rest in
     record {
       taken = g.taken ++ step.taken;
       ended = v.ended;
       takes = v.takes;
       done = inl (record {
-        before = good_requests 1 g.lines;
-        later = good_requests (1 + length g.lines) (new.line ∷ lines_from (k + 1) new.bytes v.ended);
-        are = ap (good_requests 1) v.lines_of ∙ good-append 1 g.lines (new.line ∷ lines_from (k + 1) new.bytes v.ended) g.good;
-        done = unwritten (good_requests 1 g.lines) a b c from mid at g.done left;
+        before = before;
+        later = good_requests (1 + length g.lines) (new.line ∷ rest);
+        are = ap (good_requests 1) v.lines_of ∙ good-append 1 g.lines (new.line ∷ rest) g.good;
+        done = unwritten before a b c from mid at g.done left.1;
+        wants = λ line there.
+            let same : new.line ≡ line = cc (here, there) in
+            subst (λ (l : List ℕ). MayRunOut (judged (length before + 1) l)) same (subst (λ (i : ℕ). MayRunOut (judged i new.line)) (sym n) left.0);
       });
     }
 line_wants k old new s t u a b c from mid at g step at_end near (inr cut) =
@@ -347,15 +369,41 @@ wants_all s a from = record {
   taken = [];
   ended = the_end false s;
   takes = record { consumed = Consumes-nil s; end = tells_end false s (λ e. absurd (cc)) };
-  done = inl (record { before = []; later = []; are = refl; done = λ p h. record { written = Appends-nil a; at = h } });
+  done = inl (record { before = []; later = []; are = refl; done = λ p h. record { written = Appends-nil a; at = h }; wants = λ line there. absurd (cc) });
 }
 
 -- ---- one event
 
+-- a request that asks for something may want memory
+pub wants_request : (request : Request) → (request ≡ Nothing → ⊥) → MayRunOut (Ok request)
+wants_request Nothing some = some refl
+wants_request (ExtendBy r text) some = tt
+wants_request (ReadOf r) some = tt
+wants_request (LetBe name value) some = tt
+wants_request (ShowOf value) some = tt
+wants_request (ImageOf name job entry budget code) some = tt
+wants_request (TakeOf frames) some = tt
+wants_request (GiveAt at) some = tt
+wants_request (PokeAt at bytes) some = tt
+wants_request (PeekAt at count) some = tt
+wants_request (DmaAt at bytes) some = tt
+
+wants_read : (read : Result Request LineFault) → (read ≡ Ok Nothing → ⊥) → ((f : LineFault) → IsEarly f → read ≡ Err f → ⊥) → MayRunOut (as_bad read)
+wants_read (Ok request) some late = wants_request request (λ e. some (ap (λ (r : Request). Ok r) e))
+wants_read (Err f) some late = λ early. late f early refl
+
+-- want of memory is no early fault
+pub not_early : {T : Type 0} (r : Result T LineFault) (f : LineFault) → r ≡ Err fault.NoMemory → r ≡ Err f → IsEarly f → ⊥
+not_early r f want is early = let same : f ≡ fault.NoMemory = cc (want, is) in subst (λ (g : LineFault). IsEarly g) same early
+
+-- a line may want memory where it is not blank and has no early fault
+pub wants_line : (n : ℕ) (text : List ℕ) → n ≤ most_lines → (reading text ≡ Ok Nothing → ⊥) → ((f : LineFault) → IsEarly f → reading text ≡ Err f → ⊥) → MayRunOut (judged n text)
+wants_line n text few some late = let a : nat_lt most_lines n ≡ false = grind (arith, nat_tests) in rw a (wants_read (reading text) some late)
+
 -- an event was done, and its line was put
 pub event_put : (end : LineRun) (n : ℕ) (request : Request) (out out' : Option (List ℕ)) (old new : Experiment) (piece : List ℕ) → PutRan end out out' piece
-    → ((p : Platform) → IsAt p old → piece ≡ transcript_line n request p) → ((p : Platform) → IsAt p old → IsAt (after request p) new) → EventRan end n request out out' old new
+    → ((p : Platform) → IsAt p old → piece ≡ transcript_line n request p) → ((p : Platform) → IsAt p old → IsAt (after request p) new) → LineRan end n (Ok request) out out' old new
 event_put run.Done n request out out' old new piece put is at = λ p s. record { written = subst (λ (xs : List ℕ). Appends out out' xs) (is p s) put; at = at p s }
 event_put run.WriteFault n request out out' old new piece put is at = λ p s. record { written = subst (λ (xs : List ℕ). AppendsPart out out' xs) (is p s) put; at = at p s }
 event_put run.NoMemory n request out out' old new piece put is at = inr (λ p s. record { written = subst (λ (xs : List ℕ). AppendsPart out out' xs) (is p s) put; at = at p s })
-event_put (run.Bad fault) n request out out' old new piece put is at = put
+event_put (run.Bad fault) n request out out' old new piece put is at = absurd put

@@ -1,15 +1,16 @@
 -- How one line of a script ended.
-use Rattle.std.specs.Prelude.{◌≡◌, ◌≢◌, ◌⊎◌, ℕ, List, [], ◌++◌, Option, Ok, Err}
+use Rattle.std.specs.Prelude.{◌≡◌, ◌≢◌, ◌⊎◌, ℕ, List, [], ◌++◌, Option, Result, Ok, Err}
 use Rattle.std.specs.Io.KnownBytes.{Appends}
 use Rattle.flk_base.specs.Told.{AppendsWhereTold}
 use Rattle.script_text.specs.Grammar.{Request}
-use Rattle.script_text.specs.Reading.{judged}
+use Rattle.script_text.specs.declared.line.BadLine.{BadLine}
 use Rattle.script_text.specs.declared.line.BadLine.TheVariants.{Faulty}
 use Rattle.flk_run.specs.declared.run.LineRun.{LineRun}
 use Rattle.flk_run.specs.declared.run.LineRun.TheVariants.{Done, Bad, WriteFault, NoMemory}
 use Rattle.flk_run.specs.Platform.{Platform}
 use Rattle.flk_run.specs.Events.{after, transcript_line}
 use Rattle.flk_run.specs.Parts.{Experiment, IsAt}
+use Rattle.flk_run.specs.Script.{MayRunOut}
 
 -- a front of the piece was appended, and not all of it
 pub record AppendsPart (out out' : Option (List ℕ)) (piece : List ℕ) : Type 0 where
@@ -41,17 +42,24 @@ pub record NotBegun (out out' : Option (List ℕ)) (old new : Experiment) : Type
   pub unwritten : out' ≡ out
   pub kept : new ≡ old
 
--- the request of line n ended so, from each platform that the experiment was at
-abbrev pub EventRan : LineRun → ℕ → Request → Option (List ℕ) → Option (List ℕ) → Experiment → Experiment → Type 0
-EventRan Done n request out out' old new = (p : Platform) → IsAt p old → EventDone n request p out out' new
-EventRan WriteFault n request out out' old new = (p : Platform) → IsAt p old → EventCut n request p out out' new
-EventRan NoMemory n request out out' old new = NotBegun out out' old new ⊎ ((p : Platform) → IsAt p old → EventCut n request p out out' new)
-EventRan (Bad fault) n request out out' old new = ⊥
+-- line n, of which this was judged, asks for a request, which was done and written from each platform that the
+-- experiment was at
+abbrev pub IsDone : ℕ → Result Request BadLine → Option (List ℕ) → Option (List ℕ) → Experiment → Experiment → Type 0
+IsDone n (Ok request) out out' old new = (p : Platform) → IsAt p old → EventDone n request p out out' new
+IsDone n (Err bad) out out' old new = ⊥
 
--- line n ended so
-abbrev pub LineRan : LineRun → ℕ → List ℕ → Option (List ℕ) → Option (List ℕ) → Experiment → Experiment → Type 0
-LineRan Done n line out out' old new = (request : Request) × (judged n line ≡ Ok request) × EventRan Done n request out out' old new
-LineRan WriteFault n line out out' old new = (request : Request) × (judged n line ≡ Ok request) × EventRan WriteFault n request out out' old new
-LineRan NoMemory n line out out' old new =
-    NotBegun out out' old new ⊎ ((request : Request) × (judged n line ≡ Ok request) × EventRan WriteFault n request out out' old new)
-LineRan (Bad fault) n line out out' old new = (judged n line ≡ Err (Faulty fault)) × NotBegun out out' old new
+-- the same, but its transcript line is cut short
+abbrev pub IsCut : ℕ → Result Request BadLine → Option (List ℕ) → Option (List ℕ) → Experiment → Experiment → Type 0
+IsCut n (Ok request) out out' old new = (p : Platform) → IsAt p old → EventCut n request p out out' new
+IsCut n (Err bad) out out' old new = ⊥
+
+-- memory ran out: before the line was begun, if it may there, or for its transcript line once it was done
+abbrev pub IsWanting : ℕ → Result Request BadLine → Option (List ℕ) → Option (List ℕ) → Experiment → Experiment → Type 0
+IsWanting n line out out' old new = (MayRunOut line × NotBegun out out' old new) ⊎ IsCut n line out out' old new
+
+-- how line n ended, of which this was judged
+abbrev pub LineRan : LineRun → ℕ → Result Request BadLine → Option (List ℕ) → Option (List ℕ) → Experiment → Experiment → Type 0
+LineRan Done n line out out' old new = IsDone n line out out' old new
+LineRan (Bad fault) n line out out' old new = (line ≡ Err (Faulty fault)) × NotBegun out out' old new
+LineRan WriteFault n line out out' old new = IsCut n line out out' old new
+LineRan NoMemory n line out out' old new = IsWanting n line out out' old new

@@ -1,11 +1,12 @@
 -- How far a run of a script came: what was taken, what was done, and what was written. What is done and
 -- written is said for every platform that the board and the disk hold when the run begins.
-use Rattle.std.specs.Prelude.{◌≡◌, ◌≢◌, ◌↔◌, ◌⊎◌, ℕ, ◌+◌, ◌-◌, ◌≤◌, Bool, true, false, List, [], ◌∷◌, ◌++◌, length, Option, Some, None}
+use Rattle.std.specs.Prelude.{◌≡◌, ◌≢◌, ◌↔◌, ◌⊎◌, ℕ, ◌+◌, ◌-◌, ◌≤◌, Bool, true, false, List, [], ◌∷◌, ◌++◌, length, slice_get, Option, Some, None}
 use Rattle.std.specs.Io.KnownBytes.{Appends, Consumes}
 use Rattle.flk_base.specs.Told.{AppendsWhereTold}
 use Rattle.script_text.specs.Grammar.{Request}
 use Rattle.script_text.specs.Lines.{longest_line, script_lines, behind_lines}
 use Rattle.script_text.specs.Reader.{TakenUntilFault, read_size}
+use Rattle.script_text.specs.Reading.{judged}
 use Rattle.script_text.specs.declared.line.BadLine.{BadLine}
 use Rattle.script_text.specs.declared.line.BadLine.TheVariants.{Faulty, TooMany}
 use Rattle.script_text.specs.declared.line.LineFault.TheVariants as fault
@@ -14,7 +15,7 @@ use Rattle.flk_run.specs.declared.run.RunEnd.TheVariants.{Done, Bad, ReadFault, 
 use Rattle.flk_run.specs.Platform.{Platform}
 use Rattle.flk_run.specs.Events.{transcript_line, transcript, after_all}
 use Rattle.flk_run.specs.Parts.{Experiment, IsAt}
-use Rattle.flk_run.specs.Script.{good_requests, first_bad}
+use Rattle.flk_run.specs.Script.{good_requests, first_bad, MayRunOut}
 
 -- ---- what was taken
 
@@ -46,12 +47,14 @@ pub record Written (requests : List Request) (p : Platform) (out out' : Option (
 abbrev pub AllWritten : List Request → Option (List ℕ) → Option (List ℕ) → Experiment → Experiment → Type 0
 AllWritten requests out out' old new = (p : Platform) → IsAt p old → Written requests p out out' new
 
--- some of the requests, from the first on, are done and written, and no other is begun
-pub record Paused (requests : List Request) (out out' : Option (List ℕ)) (old new : Experiment) : Type 0 where
+-- some of what the lines ask for, from the first on, is done and written, and no more is begun: at the next line,
+-- where it was taken, memory may run out
+pub record Paused (lines : List (List ℕ)) (out out' : Option (List ℕ)) (old new : Experiment) : Type 0 where
   pub before : List Request
   pub later : List Request
-  pub are : requests ≡ before ++ later
+  pub are : good_requests 1 lines ≡ before ++ later
   pub done : AllWritten before out out' old new
+  pub wants : (line : List ℕ) → slice_get lines (length before) ≡ Some line → MayRunOut (judged (length before + 1) line)
 
 -- from platform p requests are done and written, and one more is done, of whose transcript line not all is
 -- written
@@ -105,7 +108,7 @@ pub record Wanting (source source' out out' : Option (List ℕ)) (old new : Expe
   pub taken : List ℕ
   pub ended : Bool
   pub takes : Takes source source' taken ended
-  pub done : Paused (good_requests 1 (script_lines taken ended)) out out' old new
+  pub done : Paused (script_lines taken ended) out out' old new
       ⊎ CutShort (good_requests 1 (script_lines taken ended)) out out' old new
 
 -- what a run that ended so took, did and wrote

@@ -1,8 +1,9 @@
 -- A script: its lines, judged in order.
 use Rattle.std.specs.Prelude.{ℕ, ◌+◌, List, [], ◌∷◌, Option, Some, None, Result, Ok, Err}
-use Rattle.script_text.specs.Grammar.{Request}
-use Rattle.script_text.specs.Reading.{judged}
+use Rattle.script_text.specs.Grammar.{Request, Nothing}
+use Rattle.script_text.specs.Reading.{judged, IsEarly}
 use Rattle.script_text.specs.declared.line.BadLine.{BadLine}
+use Rattle.script_text.specs.declared.line.BadLine.TheVariants.{Faulty, TooMany}
 
 -- a request before others, or none where the line is bad
 abbrev pub before_others : Result Request BadLine → List Request → List Request
@@ -23,3 +24,10 @@ bad_or n (Err bad) later = Some (n, bad)
 abbrev pub first_bad : ℕ → List (List ℕ) → Option (ℕ × BadLine)
 first_bad n [] = None
 first_bad n (line ∷ lines) = bad_or n (judged n line) (first_bad (n + 1) lines)
+
+-- memory may run out at a line that was judged so: a blank one takes none, nor is any taken before an early fault
+abbrev pub MayRunOut : Result Request BadLine → Type 0
+MayRunOut (Ok Nothing) = ⊥
+MayRunOut (Ok request) = Unit {0}
+MayRunOut (Err TooMany) = ⊥
+MayRunOut (Err (Faulty fault)) = IsEarly fault → ⊥

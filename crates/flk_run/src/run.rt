@@ -2,9 +2,10 @@
 ghost use Rattle.std.specs.Prelude.{◌≡◌, ◌≢◌, ◌≤◌, [], false};
 ghost use Rattle.flk_base.specs.Causes.{Rose};
 ghost use Rattle.script_text.specs.Lines.{most_lines};
+ghost use Rattle.script_text.specs.Reading.{judged};
 ghost use Rattle.script_text.specs.Seen.{request_of, HasShortName};
 ghost use Rattle.flk_run.specs.Runs.{Ran};
-ghost use Rattle.flk_run.specs.LineRuns.{LineRan, EventRan, PutRan};
+ghost use Rattle.flk_run.specs.LineRuns.{LineRan, PutRan};
 
 use crate::runner::{Runner, StepEnd};
 use flk_base::{Bytes, PutFault, Sink, Source};
@@ -56,6 +57,9 @@ pub fn run_script<S: Source, K: Sink>(
     ensures later_out { K.fault_count out.old ≤ K.fault_count out.new }
     ensures read { result.1 ≡ RunEnd.ReadFault → Rose (S.fault_count source.old) (S.fault_count source.new) }
     ensures write { result.1 ≡ RunEnd.WriteFault → Rose (K.fault_count out.old) (K.fault_count out.new) }
+    // No fault is passed over, or told as another end.
+    ensures source_stays { result.1 ≢ RunEnd.ReadFault → S.fault_count source.new ≡ S.fault_count source.old }
+    ensures out_stays { result.1 ≢ RunEnd.WriteFault → K.fault_count out.new ≡ K.fault_count out.old }
 {
     match LineReader::new(alloc) {
         Ok(reader) => run_lines(alloc, reader, source, out, runner),
@@ -77,6 +81,8 @@ fn run_lines<S: Source, K: Sink>(
     ensures later_out { K.fault_count out.old ≤ K.fault_count out.new }
     ensures read { result.1 ≡ RunEnd.ReadFault → Rose (S.fault_count source.old) (S.fault_count source.new) }
     ensures write { result.1 ≡ RunEnd.WriteFault → Rose (K.fault_count out.old) (K.fault_count out.new) }
+    ensures source_stays { result.1 ≢ RunEnd.ReadFault → S.fault_count source.new ≡ S.fault_count source.old }
+    ensures out_stays { result.1 ≢ RunEnd.WriteFault → K.fault_count out.new ≡ K.fault_count out.old }
 {
     let mut reader = reader;
     let mut runner = runner;
@@ -118,9 +124,10 @@ fn run_line<K: Sink>(
     out: &mut K,
 ) -> (Runner, LineRun)
     requires { number ≤ most_lines }
-    ensures ran { LineRan result.1 number line.now (K.contents out.old) (K.contents out.new) runner result.0 }
+    ensures ran { LineRan result.1 number (judged number line.now) (K.contents out.old) (K.contents out.new) runner result.0 }
     ensures later { K.fault_count out.old ≤ K.fault_count out.new }
     ensures cause { result.1 ≡ LineRun.WriteFault → Rose (K.fault_count out.old) (K.fault_count out.new) }
+    ensures stays { result.1 ≢ LineRun.WriteFault → K.fault_count out.new ≡ K.fault_count out.old }
 {
     match read_line(alloc, line) {
         Err(LineFault::NoMemory) => return (runner, LineRun::NoMemory),
@@ -138,9 +145,10 @@ fn run_event<K: Sink>(
     out: &mut K,
 ) -> (Runner, LineRun)
     requires { HasShortName (request_of event.now) }
-    ensures ran { EventRan result.1 number (request_of event.now) (K.contents out.old) (K.contents out.new) runner result.0 }
+    ensures ran { LineRan result.1 number (Ok (request_of event.now)) (K.contents out.old) (K.contents out.new) runner result.0 }
     ensures later { K.fault_count out.old ≤ K.fault_count out.new }
     ensures cause { result.1 ≡ LineRun.WriteFault → Rose (K.fault_count out.old) (K.fault_count out.new) }
+    ensures stays { result.1 ≢ LineRun.WriteFault → K.fault_count out.new ≡ K.fault_count out.old }
 {
     let mut answer = Bytes::new(alloc);
     let (runner, end) = runner.step(number, event, &mut answer);
@@ -161,6 +169,7 @@ fn write<K: Sink>(answer: &Bytes, out: &mut K) -> LineRun
     ensures put { PutRan result (K.contents out.old) (K.contents out.new) answer.now.bytes }
     ensures later { K.fault_count out.old ≤ K.fault_count out.new }
     ensures cause { result ≡ LineRun.WriteFault → Rose (K.fault_count out.old) (K.fault_count out.new) }
+    ensures stays { result ≢ LineRun.WriteFault → K.fault_count out.new ≡ K.fault_count out.old }
 {
     match out.put(answer.as_slice()) {
         Ok(()) => return LineRun::Done,

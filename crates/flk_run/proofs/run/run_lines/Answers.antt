@@ -1,4 +1,4 @@
-use Rattle.std.proofs.Common.{◌≡◌, ◌<◌, false, sym, ap, ◌∙◌, length, arith}
+use Rattle.std.proofs.Common.{refl, ◌≡◌, ◌<◌, false, sym, ap, ◌∙◌, length, arith}
 use Rattle.script_text.specs.Reader.{Held}
 use Rattle.script_text.specs.Lines.{most_lines, lines_from}
 use Rattle.script_text.specs.declared.reader.LineEnd.TheVariants as line
@@ -14,8 +14,8 @@ loop-before-init g c =
       far = rw empty (begins (g.S.Source.left c.args.source.now) (g.K.Sink.contents c.args.out.now) c.args.runner);
       end = λ e. let f = sym (ap (λ (h : Held). h.ended) empty) ∙ e in absurd (cc);
       near = omega (arith, ap (λ (h : Held). length h.bytes) empty);
-      later = omega arith;
-      later_out = omega arith;
+      stays = refl;
+      out_stays = refl;
     }
 
 pub returns-in-End-clause-ran : goal.returns-in-End-clause-ran
@@ -62,8 +62,8 @@ loop-before-preserved g c =
       far = line_done c.loop-before.before c.loop-before.reader c.next.new.self _ _ _ _ _ _ c.args.runner c.loop-before.runner c.run_line-next.result.0 c.loop-before.invariant.far t (rw (c.in-Done.is, c.line.ensures) at c.run_line-next.ensures.ran);
       end = c.in-Line.ensures.end c.loop-before.invariant.end;
       near = c.in-Line.ensures.ahead;
-      later = omega (arith, c.in-Line.ensures.later);
-      later_out = omega (arith, c.run_line-next.ensures.later);
+      stays = c.in-Line.ensures.stays (λ e. absurd (cc)) ∙ c.loop-before.invariant.stays;
+      out_stays = c.run_line-next.ensures.stays (λ e. let d = sym e ∙ c.in-Done.is in absurd (cc)) ∙ c.loop-before.invariant.out_stays;
     }
 
 pub returns-in-Some-clause-ran : goal.returns-in-Some-clause-ran

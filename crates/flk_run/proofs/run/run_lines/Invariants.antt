@@ -13,6 +13,6 @@ invariant-loop-before g l =
       far : Progress l.before l.reader (left l.fn.source) (left l.source) (contents l.fn.out) (contents l.out) l.fn.runner l.runner;
       end : l.reader.ended ≡ true → IsAtEnd (left l.source);
       near : length l.reader.bytes ≤ read_size;
-      later : g.S.Source.fault_count l.fn.source ≤ g.S.Source.fault_count l.source;
-      later_out : g.K.Sink.fault_count l.fn.out ≤ g.K.Sink.fault_count l.out;
+      stays : g.S.Source.fault_count l.source ≡ g.S.Source.fault_count l.fn.source;
+      out_stays : g.K.Sink.fault_count l.out ≡ g.K.Sink.fault_count l.fn.out;
     }
