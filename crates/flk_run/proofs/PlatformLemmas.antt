@@ -70,6 +70,12 @@ pub has_image : {T E : Type 0} (view : ImageFault → E) (r : Result T E) (made 
 has_image view r made None is only = refl
 has_image view r made (Some f) is only = let e = (only f).1 refl in cc
 
+-- nor have values one for which each fault's answer is another
+pub no_fault : {T E : Type 0} (view : ImageFault → E) (r : Result T E) (fault : Option ImageFault) → ((f : ImageFault) → r ≡ Err (view f) → ⊥)
+    → ((f : ImageFault) → (r ≡ Err (view f)) ↔ (fault ≡ Some f)) → fault ≡ None
+no_fault view r None none only = refl
+no_fault view r (Some f) none only = absurd (none f ((only f).1 refl))
+
 nothing : (xs : List ℕ) → length xs ≡ 0 → xs ≡ []
 nothing [] h = refl
 nothing (x ∷ xs) h = absurd (omega (arith, h))

@@ -114,8 +114,9 @@ fn image_of<'e>(
     front: Front,
     code: &[u8],
 ) -> Result<Task<'e>, NoMemory>
-    ensures { IfOk result (λ task. seen task
+    ensures task { IfOk result (λ task. seen task
         ≡ imaged name.now (build_fault front.entry front.budget code.now) (pack front.entry front.budget front.job code.now)) }
+    ensures want { IsErr result → build_fault front.entry front.budget code.now ≡ None }
 {
     match build(alloc, code, front.entry, front.budget, front.job) {
         Ok(image) => return Ok(Task::BindImage { name, image }),
