@@ -77,6 +77,7 @@ pub(crate) fn put_value(out: &mut Bytes, number: u32, value: &[u8])
 {
     put_number(out, number);
     out.put(b"ok x:");
+    // It can't fail: there is room for the digits (`ample` of `print_hex`).
     let _ = print_hex(out, value);
     out.put(b"\n");
 }
