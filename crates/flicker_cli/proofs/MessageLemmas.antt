@@ -15,7 +15,7 @@ module _ (m : List ℕ) (wanted : ℕ) (a b : Option (List ℕ)) (before now sta
   tried_status (inr (inr want)) = inr (inr want.0)
 
   -- a message that was written whole
-  pub whole_message : Tried m wanted a b before now status → status ≤ 3 → (status ≡ wanted) × Appends a b m
+  pub whole_message : Tried m wanted a b before now status → status ≤ 3 → (status ≡ wanted) × (now ≡ before) × Appends a b m
   whole_message (inl whole) few = whole
   whole_message (inr (inl failed)) few = absurd (omega (arith, failed.0))
   whole_message (inr (inr want)) few = absurd (omega (arith, want.0))
@@ -27,22 +27,22 @@ module _ (m : List ℕ) (wanted : ℕ) (a b : Option (List ℕ)) (before now sta
   failed_message (inr (inr want)) is other = absurd (omega (arith, want.0))
 
   -- one for which memory ran out
-  pub want_message : Tried m wanted a b before now status → status ≡ 5 → wanted ≢ 5 → AppendsFront a b m
+  pub want_message : Tried m wanted a b before now status → status ≡ 5 → wanted ≢ 5 → (now ≡ before) × AppendsFront a b m
   want_message (inl whole) is other = absurd (other (sym whole.0 ∙ is))
   want_message (inr (inl failed)) is other = absurd (omega (arith, failed.0))
-  want_message (inr (inr want)) is other = want.1
+  want_message (inr (inr want)) is other = (want.1, want.2)
 
   -- the message on a failed put of out
-  pub out_message : Tried m 4 a b before now status → status ≡ 4 → Appends a b m ⊎ (Rose before now × AppendsFront a b m)
-  out_message (inl whole) is = inl whole.1
+  pub out_message : Tried m 4 a b before now status → status ≡ 4 → ((now ≡ before) × Appends a b m) ⊎ (Rose before now × AppendsFront a b m)
+  out_message (inl whole) is = inl (whole.1, whole.2)
   out_message (inr (inl failed)) is = inr (failed.1, failed.2)
   out_message (inr (inr want)) is = absurd (omega (arith, want.0))
 
   -- the message on want of memory
-  pub memory_message : Tried m 5 a b before now status → status ≡ 5 → Appends a b m ⊎ AppendsFront a b m
-  memory_message (inl whole) is = inl whole.1
+  pub memory_message : Tried m 5 a b before now status → status ≡ 5 → ((now ≡ before) × Appends a b m) ⊎ ((now ≡ before) × AppendsFront a b m)
+  memory_message (inl whole) is = inl (whole.1, whole.2)
   memory_message (inr (inl failed)) is = absurd (omega (arith, failed.0))
-  memory_message (inr (inr want)) is = inr want.1
+  memory_message (inr (inr want)) is = inr (want.1, want.2)
 
 -- nothing was written
 pub kept : (a b : Option (List ℕ)) → b ≡ a → Appends a b []

@@ -6,6 +6,7 @@ use Rattle.std.proofs.KnownBytes.{Consumes-nil}
 use Rattle.std.proofs.lemmas.Bool.Decides.{nat_tests}
 use Rattle.script_text.specs.Lines.{script_lines}
 use Rattle.script_text.specs.declared.line.BadLine.{BadLine as Bad}
+use Rattle.region_pool.specs.Spans.{Span}
 use Rattle.flk_run.specs.Parts.{as_host, Machine, Experiment, Stands}
 use Rattle.flk_run.specs.Events.{transcript}
 use Rattle.flk_run.specs.Script.{first_bad, good_requests}
@@ -23,7 +24,7 @@ use Rattle.flicker_cli.specs.Filters.{most_input, fault_of, fault_in, or_nothing
 use Rattle.flicker_cli.specs.Inputs.{IsInput, Filtered, Refused}
 use Rattle.flicker_cli.specs.Messages.{usage_message, outcome_message, outcome_status}
 use Rattle.flicker_cli.specs.Text.{script_end, input_end, end_on}
-use Rattle.flicker_cli.specs.Answered.{Streams, IsText, Untouched, begun}
+use Rattle.flicker_cli.specs.Answered.{Streams, FaultsOn, IsText, Untouched, begun}
 use Rattle.flicker_cli.specs.Telling.{Tried, Ends}
 use Rattle.flicker_cli.proofs.MessageLemmas.{whole_message, kept}
 
@@ -72,41 +73,44 @@ settled_input which taken ended input more ends = elim input.whole [
   | inr long ↦ ap input_end (too_long_by which taken more long ∙ sym (too_long which taken long))
 ]
 
-text_filtered : (which : Which) (old new : Streams) (status : ℕ) (from at : Machine) → Filtered which old.source new.source old.out new.out → at ≡ from
-    → Appends old.err new.err [] → status ≡ 0 → IsText (Some (Filter which)) old new status from at
-text_filtered which old new status from at d same m s = record {
+text_filtered : (which : Which) (old new : Streams) (status : ℕ) (from at : Machine) (spans : List Span) → Filtered which old.source new.source old.out new.out → at ≡ from → spans ≡ []
+    → Appends old.err new.err [] → status ≡ 0 → FaultsOn false false false old new → IsText (Some (Filter which)) old new status from at spans
+text_filtered which old new status from at spans d same none m s f = record {
   taken = d.taken;
   ended = d.takes.ended;
   takes = d.takes.takes;
   read = λ zero. all_read which d.taken d.takes.ended d.takes.input d.makes.good;
   err = subst (λ b. Appends old.err new.err (outcome_message (input_end b))) (sym d.makes.good) m;
   status_is = s ∙ ap (λ b. outcome_status (input_end b)) (sym d.makes.good);
-  done = λ p h. record { out = d.text; is = d.makes.made; written = d.written; stands = subst (λ x. Stands p x) (sym same) h.stands };
+  done = λ p h. record { out = d.text; is = d.makes.made; written = d.written; stands = subst (λ x. Stands p x) (sym same) h.stands; handed = none ∙ sym (ap (map as_host) h.untaken) };
   settled = λ more ends. settled_input which d.taken d.takes.ended d.takes.input more ends;
-  kept = same;
+  kept = (same, none);
   stops = d.takes.input;
+  faults = f;
 }
 
-text_refused : (which : Which) (bad : Fault) (old new : Streams) (status : ℕ) (from at : Machine) → Refused which bad old.source new.source old.out new.out → at ≡ from
-    → Appends old.err new.err (outcome_message (BadInput bad)) → status ≡ 1 → IsText (Some (Filter which)) old new status from at
-text_refused which bad old new status from at d same m s = record {
+text_refused : (which : Which) (bad : Fault) (old new : Streams) (status : ℕ) (from at : Machine) (spans : List Span) → Refused which bad old.source new.source old.out new.out → at ≡ from → spans ≡ []
+    → Appends old.err new.err (outcome_message (BadInput bad)) → status ≡ 1 → FaultsOn false false false old new → IsText (Some (Filter which)) old new status from at spans
+text_refused which bad old new status from at spans d same none m s f = record {
   taken = d.taken;
   ended = d.takes.ended;
   takes = d.takes.takes;
   read = λ zero. absurd (omega (arith, s));
   err = subst (λ b. Appends old.err new.err (outcome_message (input_end b))) (sym d.fault) m;
   status_is = s ∙ ap (λ b. outcome_status (input_end b)) (sym d.fault);
-  done = λ p h. record { out = []; is = filters_nothing which d.taken bad d.fault; written = kept old.out new.out d.unwritten; stands = subst (λ x. Stands p x) (sym same) h.stands };
+  done = λ p h. record { out = []; is = filters_nothing which d.taken bad d.fault; written = kept old.out new.out d.unwritten; stands = subst (λ x. Stands p x) (sym same) h.stands; handed = none ∙ sym (ap (map as_host) h.untaken) };
   settled = λ more ends. settled_input which d.taken d.takes.ended d.takes.input more ends;
-  kept = same;
+  kept = (same, none);
   stops = d.takes.input;
+  faults = f;
 }
 
 -- ---- scripts
 
 text_script : (old new : Streams) (status : ℕ) (from : Machine) (at : Experiment) (bad : Option (ℕ × Bad)) → AllDone bad old.source new.source old.out new.out (begun from) at
-    → Appends old.err new.err (outcome_message (script_end bad)) → status ≡ outcome_status (script_end bad) → (status ≡ 0 → bad ≡ None) → IsText (Some Run) old new status from at.machine
-text_script old new status from at bad d m s none = record {
+    → Appends old.err new.err (outcome_message (script_end bad)) → status ≡ outcome_status (script_end bad) → (status ≡ 0 → bad ≡ None) → FaultsOn false false false old new
+    → IsText (Some Run) old new status from at.machine at.spans
+text_script old new status from at bad d m s none f = record {
   taken = d.taken;
   ended = d.ended;
   takes = d.takes;
@@ -115,64 +119,72 @@ text_script old new status from at bad d m s none = record {
   status_is = s ∙ ap (λ b. outcome_status (script_end b)) (sym d.judged);
   done = λ p h.
       let w = d.done p (record { stands = h.stands; variables = sym h.unbound; spans = sym (ap (map as_host) h.untaken) }) in
-      record { out = transcript 1 (good_requests 1 (script_lines d.taken d.ended)) p; is = refl; written = w.written; stands = w.at.stands };
+      record { out = transcript 1 (good_requests 1 (script_lines d.taken d.ended)) p; is = refl; written = w.written; stands = w.at.stands; handed = w.at.spans };
   settled = λ more ends. ap script_end (d.stays more ends ∙ sym d.judged);
   kept = tt;
   stops = rw d.judged d.near;
+  faults = f;
 }
 
 -- ---- each command
 
--- what leaves the experiment leaves its machine
+-- what leaves the experiment leaves its machine and its spans
 same_machine : {a b : Experiment} → a ≡ b → a.machine ≡ b.machine
 same_machine e = ap (λ (x : Experiment). x.machine) e
 
-text_done : (command : Command) (old new : Streams) (status : ℕ) (from at : Machine) → Ends command Done old new status from at → IsText (Some command) old new status from at
-text_done Run old new status from at e = text_script old new status from (record { machine = at; variables = e.left.0; spans = e.left.1 }) None e.left.2 (kept old.err new.err e.told.1) e.told.0 (λ zero. refl)
-text_done (Filter which) old new status from at e = text_filtered which old new status from at e.left.2.0 (same_machine e.left.2.1) (kept old.err new.err e.told.1) e.told.0
+same_spans : {a b : Experiment} → a ≡ b → a.spans ≡ b.spans
+same_spans e = ap (λ (x : Experiment). x.spans) e
 
-text_bad_line : (command : Command) (n : ℕ) (bad : Bad) (old new : Streams) (status : ℕ) (from at : Machine) → Ends command (BadLine n bad) old new status from at → status ≤ 2
-    → IsText (Some command) old new status from at
-text_bad_line Run n bad old new status from at e few =
-    let w = whole_message _ 1 old.err new.err old.err_faults new.err_faults status e.told (omega arith) in
-    text_script old new status from (record { machine = at; variables = e.left.0; spans = e.left.1 }) (Some (n, bad)) e.left.2 w.1 w.0 (λ zero. absurd (omega (arith, w.0)))
-text_bad_line (Filter which) n bad old new status from at e few = absurd e.left.2.0
+module _ (old new : Streams) (status : ℕ) (from at : Machine) (spans : List Span) where
+  text_done : (command : Command) → Ends command Done old new status from at spans → IsText (Some command) old new status from at spans
+  text_done Run e =
+      text_script old new status from (record { machine = at; variables = e.left.0; spans = spans }) None e.left.1 (kept old.err new.err e.told.2) e.told.0 (λ zero. refl)
+      (record { source = e.source; out = e.out; err = e.told.1 })
+  text_done (Filter which) e =
+      text_filtered which old new status from at spans e.left.1.0 (same_machine e.left.1.1) (same_spans e.left.1.1) (kept old.err new.err e.told.2) e.told.0
+      (record { source = e.source; out = e.out; err = e.told.1 })
 
-text_bad_input : (command : Command) (bad : Fault) (old new : Streams) (status : ℕ) (from at : Machine) → Ends command (BadInput bad) old new status from at → status ≤ 2
-    → IsText (Some command) old new status from at
-text_bad_input Run bad old new status from at e few = absurd e.left.2
-text_bad_input (Filter which) bad old new status from at e few =
-    let w = whole_message _ 1 old.err new.err old.err_faults new.err_faults status e.told (omega arith) in
-    text_refused which bad old new status from at e.left.2.0 (same_machine e.left.2.1) w.1 w.0
+  text_bad_line : (command : Command) (n : ℕ) (bad : Bad) → Ends command (BadLine n bad) old new status from at spans → status ≤ 2 → IsText (Some command) old new status from at spans
+  text_bad_line Run n bad e few =
+      let w = whole_message _ 1 old.err new.err old.err_faults new.err_faults status e.told (omega arith) in
+      text_script old new status from (record { machine = at; variables = e.left.0; spans = spans }) (Some (n, bad)) e.left.1 w.2 w.0 (λ zero. absurd (omega (arith, w.0)))
+      (record { source = e.source; out = e.out; err = w.1 })
+  text_bad_line (Filter which) n bad e few = absurd e.left.1.0
 
-pub text_command : (command : Command) (outcome : Outcome) (old new : Streams) (status : ℕ) (from at : Machine) → Ends command outcome old new status from at → status ≤ 2
-    → IsText (Some command) old new status from at
-text_command command Done old new status from at e few = text_done command old new status from at e
-text_command command (BadLine n bad) old new status from at e few = text_bad_line command n bad old new status from at e few
-text_command command (BadInput bad) old new status from at e few = text_bad_input command bad old new status from at e few
-text_command command ReadFault old new status from at e few = let w = whole_message _ 3 old.err new.err old.err_faults new.err_faults status e.told (omega arith) in absurd (omega (arith, w.0))
-text_command command WriteFault old new status from at e few = let w = whole_message _ 4 old.err new.err old.err_faults new.err_faults status e.told (omega arith) in absurd (omega (arith, w.0))
-text_command command NoMemory old new status from at e few = let w = whole_message _ 5 old.err new.err old.err_faults new.err_faults status e.told (omega arith) in absurd (omega (arith, w.0))
+  text_bad_input : (command : Command) (bad : Fault) → Ends command (BadInput bad) old new status from at spans → status ≤ 2 → IsText (Some command) old new status from at spans
+  text_bad_input Run bad e few = absurd e.left.1
+  text_bad_input (Filter which) bad e few =
+      let w = whole_message _ 1 old.err new.err old.err_faults new.err_faults status e.told (omega arith) in
+      text_refused which bad old new status from at spans e.left.1.0 (same_machine e.left.1.1) (same_spans e.left.1.1) w.2 w.0 (record { source = e.source; out = e.out; err = w.1 })
 
-pub text_usage : (old new : Streams) (status : ℕ) (from at : Machine) → Untouched old new from at → Tried usage_message 2 old.err new.err old.err_faults new.err_faults status → status ≤ 2
-    → IsText None old new status from at
-text_usage old new status from at u t few =
-    let w = whole_message usage_message 2 old.err new.err old.err_faults new.err_faults status t (omega arith) in
-    record {
-      taken = [];
-      ended = the_end false new.source;
-      takes = record {
-        consumed = subst (λ o. Consumes old.source o []) (sym u.unread) (Consumes-nil old.source);
-        end = tells_end false new.source (λ seen. absurd (cc));
-      };
-      read = λ zero. absurd (omega (arith, w.0));
-      err = w.1;
-      status_is = w.0;
-      done = λ p h. record { out = []; is = refl; written = kept old.out new.out u.unwritten; stands = subst (λ m. Stands p m) (sym u.kept) h.stands };
-      settled = tt;
-      kept = u.kept;
-      stops = refl;
-    }
+  pub text_command : (command : Command) (outcome : Outcome) → Ends command outcome old new status from at spans → status ≤ 2 → IsText (Some command) old new status from at spans
+  text_command command Done e few = text_done command e
+  text_command command (BadLine n bad) e few = text_bad_line command n bad e few
+  text_command command (BadInput bad) e few = text_bad_input command bad e few
+  text_command command ReadFault e few = let w = whole_message _ 3 old.err new.err old.err_faults new.err_faults status e.told (omega arith) in absurd (omega (arith, w.0))
+  text_command command WriteFault e few = let w = whole_message _ 4 old.err new.err old.err_faults new.err_faults status e.told (omega arith) in absurd (omega (arith, w.0))
+  text_command command NoMemory e few = let w = whole_message _ 5 old.err new.err old.err_faults new.err_faults status e.told (omega arith) in absurd (omega (arith, w.0))
+
+  pub text_usage : Untouched old new from at spans → Tried usage_message 2 old.err new.err old.err_faults new.err_faults status
+      → new.source_faults ≡ old.source_faults → new.out_faults ≡ old.out_faults → status ≤ 2 → IsText None old new status from at spans
+  text_usage u t source out few =
+      let w = whole_message usage_message 2 old.err new.err old.err_faults new.err_faults status t (omega arith) in
+      record {
+        taken = [];
+        ended = the_end false new.source;
+        takes = record {
+          consumed = subst (λ o. Consumes old.source o []) (sym u.unread) (Consumes-nil old.source);
+          end = tells_end false new.source (λ seen. absurd (cc));
+        };
+        read = λ zero. absurd (omega (arith, w.0));
+        err = w.2;
+        status_is = w.0;
+        done = λ p h. record { out = []; is = refl; written = kept old.out new.out u.unwritten; stands = subst (λ m. Stands p m) (sym u.kept) h.stands; handed = u.untaken ∙ sym (ap (map as_host) h.untaken) };
+        settled = tt;
+        kept = (u.kept, u.untaken);
+        stops = refl;
+        faults = record { source = source; out = out; err = w.1 };
+      }
 
 -- ---- completeness
 
@@ -203,14 +215,14 @@ bad_input which content source None out out' bad same good d = subst (λ o. Cons
 bad_input which content source (Some rest) out out' bad same good d =
     bad_taken which content d.taken rest d.takes.ended bad (subst (λ o. Consumes o (Some rest) d.taken) same d.takes.takes.consumed) (λ e. d.takes.takes.end.0 e) d.takes.input d.fault good
 
--- a source of the command's form has no bad line
-pub no_bad_line : (command : Command) (n : ℕ) (bad : Bad) (content : List ℕ) (old new : Streams) (status : ℕ) (from at : Machine) → Ends command (BadLine n bad) old new status from at
-    → old.source ≡ Some content → end_on command content true ≡ Done → ⊥
-no_bad_line Run n bad content old new status from at e same good = bad_script content old.source new.source old.out new.out (begun from) (record { machine = at; variables = e.left.0; spans = e.left.1 }) (n, bad) same good e.left.2
-no_bad_line (Filter which) n bad content old new status from at e same good = e.left.2.0
+module _ (content : List ℕ) (old new : Streams) (status : ℕ) (from at : Machine) (spans : List Span) where
+  -- a source of the command's form has no bad line
+  pub no_bad_line : (command : Command) (n : ℕ) (bad : Bad) → Ends command (BadLine n bad) old new status from at spans → old.source ≡ Some content → end_on command content true ≡ Done → ⊥
+  no_bad_line Run n bad e same good =
+      bad_script content old.source new.source old.out new.out (begun from) (record { machine = at; variables = e.left.0; spans = spans }) (n, bad) same good e.left.1
+  no_bad_line (Filter which) n bad e same good = e.left.1.0
 
--- nor is it bad as an input
-pub no_bad_input : (command : Command) (bad : Fault) (content : List ℕ) (old new : Streams) (status : ℕ) (from at : Machine) → Ends command (BadInput bad) old new status from at
-    → old.source ≡ Some content → end_on command content true ≡ Done → ⊥
-no_bad_input Run bad content old new status from at e same good = e.left.2
-no_bad_input (Filter which) bad content old new status from at e same good = bad_input which content old.source new.source old.out new.out bad same good e.left.2.0
+  -- nor is it bad as an input
+  pub no_bad_input : (command : Command) (bad : Fault) → Ends command (BadInput bad) old new status from at spans → old.source ≡ Some content → end_on command content true ≡ Done → ⊥
+  no_bad_input Run bad e same good = e.left.1
+  no_bad_input (Filter which) bad e same good = bad_input which content old.source new.source old.out new.out bad same good e.left.1.0

@@ -1,7 +1,7 @@
 -- What each answer of the top call says of all that it was handed. What is done and written is said for
 -- every platform that the board and the disk held, on which no name is bound and no span is taken; a blank board
 -- holds the blank one.
-use Rattle.std.specs.Prelude.{◌≡◌, ◌≢◌, ◌⊎◌, ℕ, ◌≤◌, List, [], Bool, true, Option, Some, None}
+use Rattle.std.specs.Prelude.{◌≡◌, ◌≢◌, ◌⊎◌, ℕ, ◌≤◌, List, [], map, Bool, true, false, Option, Some, None}
 use Rattle.std.specs.Io.KnownBytes.{Appends}
 use Rattle.flk_base.specs.Causes.{Rose}
 use Rattle.flk_base.specs.Told.{AppendsFront}
@@ -9,7 +9,7 @@ use Rattle.flk_run.specs.Platform.{Platform}
 use Rattle.std.specs.FinMap.{empty}
 use Rattle.region_pool.specs.Spans.{Span}
 use Rattle.script_text.specs.Variables.{Table}
-use Rattle.flk_run.specs.Parts.{Machine, Experiment, Stands}
+use Rattle.flk_run.specs.Parts.{as_host, Machine, Experiment, Stands}
 use Rattle.flk_run.specs.Runs.{Takes, AllDone, ReadShort, WrittenShort, Wanting}
 use Rattle.flicker_cli.specs.declared.words.Command.{Command}
 use Rattle.flicker_cli.specs.declared.words.Command.TheVariants.{Run, Filter}
@@ -28,6 +28,17 @@ pub record Streams : Type 0 where
   pub out_faults : ℕ
   pub err_faults : ℕ
 
+-- a fault came here, and the count of faults rose; or none came, and it stands still
+abbrev pub Counts : Bool → ℕ → ℕ → Type 0
+Counts true before now = Rose before now
+Counts false before now = now ≡ before
+
+-- faults came on the source, on out and on err where these say so, and nowhere else
+pub record FaultsOn (on_source on_out on_err : Bool) (old new : Streams) : Type 0 where
+  pub source : Counts on_source old.source_faults new.source_faults
+  pub out : Counts on_out old.out_faults new.out_faults
+  pub err : Counts on_err old.err_faults new.err_faults
+
 -- the machine is at the platform, no name is bound, and no span is taken
 pub record Begins (p : Platform) (from : Machine) : Type 0 where
   pub stands : Stands p from
@@ -36,21 +47,22 @@ pub record Begins (p : Platform) (from : Machine) : Type 0 where
 
 -- ---- statuses 0, 1 and 2
 
--- from platform p, out and the machine are those of the text
-pub record IsDone (task : Option Command) (taken : List ℕ) (ended : Bool) (p : Platform) (old new : Streams) (at : Machine) : Type 0 where
+-- from platform p, out, the machine and the spans handed back are those of the text
+pub record IsDone (task : Option Command) (taken : List ℕ) (ended : Bool) (p : Platform) (old new : Streams) (at : Machine) (spans : List Span) : Type 0 where
   pub out : List ℕ
   pub is : IsOut task taken ended p out
   pub written : Appends old.out new.out out
   pub stands : Stands (platform_of task taken ended p) at
+  pub handed : spans ≡ map as_host (platform_of task taken ended p).memory.spans
 
--- only a script changes the machine
-abbrev pub LeavesMachine : Option Command → Machine → Machine → Type 0
-LeavesMachine None from at = at ≡ from
-LeavesMachine (Some Run) from at = Unit {0}
-LeavesMachine (Some (Filter which)) from at = at ≡ from
+-- only a script changes the machine, or takes spans
+abbrev pub LeavesMachine : Option Command → Machine → Machine → List Span → Type 0
+LeavesMachine None from at spans = (at ≡ from) × (spans ≡ [])
+LeavesMachine (Some Run) from at spans = Unit {0}
+LeavesMachine (Some (Filter which)) from at spans = (at ≡ from) × (spans ≡ [])
 
--- out, err, status and the machine are those of the text, for the bytes that were taken
-pub record IsText (task : Option Command) (old new : Streams) (status : ℕ) (from at : Machine) : Type 0 where
+-- out, err, status, the machine and the spans are those of the text, for the bytes that were taken; no fault came
+pub record IsText (task : Option Command) (old new : Streams) (status : ℕ) (from at : Machine) (spans : List Span) : Type 0 where
   pub taken : List ℕ
   pub ended : Bool
   pub takes : Takes old.source new.source taken ended
@@ -58,9 +70,10 @@ pub record IsText (task : Option Command) (old new : Streams) (status : ℕ) (fr
   pub err : Appends old.err new.err (err_of task taken ended)
   pub status_is : status ≡ status_of task taken ended
   pub settled : IsSettled task taken ended
-  pub done : (p : Platform) → Begins p from → IsDone task taken ended p old new at
-  pub kept : LeavesMachine task from at
+  pub done : (p : Platform) → Begins p from → IsDone task taken ended p old new at spans
+  pub kept : LeavesMachine task from at spans
   pub stops : StopsAt task taken ended
+  pub faults : FaultsOn false false false old new
 
 -- ---- how a call ended
 
@@ -74,11 +87,22 @@ abbrev pub end_message : CallEnd → List ℕ
 end_message Usage = usage_message
 end_message (Ended command outcome) = outcome_message outcome
 
+-- the end is a read that failed
+abbrev pub read_failed : CallEnd → Bool
+read_failed (Ended command ReadFault) = true
+read_failed _ = false
+
+-- the end is a put on out that failed
+abbrev pub put_failed : CallEnd → Bool
+put_failed (Ended command WriteFault) = true
+put_failed _ = false
+
 -- nothing was read, done or written to out
-pub record Untouched (old new : Streams) (from at : Machine) : Type 0 where
+pub record Untouched (old new : Streams) (from at : Machine) (spans : List Span) : Type 0 where
   pub unread : new.source ≡ old.source
   pub unwritten : new.out ≡ old.out
   pub kept : at ≡ from
+  pub untaken : spans ≡ []
 
 -- what a script that ended so took, did and wrote
 abbrev pub ScriptRan : Outcome → Option (List ℕ) → Option (List ℕ) → Option (List ℕ) → Option (List ℕ) → Experiment → Experiment → Type 0
@@ -98,75 +122,72 @@ CommandRan (Filter which) outcome source source' out out' from at = FilterRan wh
 abbrev pub begun : Machine → Experiment
 begun machine = record { machine = machine; variables = empty; spans = [] }
 
--- what was read, done and written to out; what the script bound is given up, and so are its tickets
-abbrev pub Left : CallEnd → Streams → Streams → Machine → Machine → Type 0
-Left Usage old new from at = Untouched old new from at
-Left (Ended command outcome) old new from at =
-    (variables : Table) × (spans : List Span) × CommandRan command outcome old.source new.source old.out new.out (begun from) (record { machine = at; variables = variables; spans = spans })
+-- what was read, done and written to out, with these spans handed back; what the script bound is given up
+abbrev pub Left : CallEnd → Streams → Streams → Machine → Machine → List Span → Type 0
+Left Usage old new from at spans = Untouched old new from at spans
+Left (Ended command outcome) old new from at spans =
+    (variables : Table) × CommandRan command outcome old.source new.source old.out new.out (begun from) (record { machine = at; variables = variables; spans = spans })
 
--- a fault that this outcome names was counted in the call
-pub record IsCaused (outcome : Outcome) (old new : Streams) : Type 0 where
-  pub read : outcome ≡ ReadFault → Rose old.source_faults new.source_faults
-  pub write : outcome ≡ WriteFault → Rose old.out_faults new.out_faults
-
--- the end of a call may be this: it is that of its words, and a fault that it names was counted
-abbrev pub IsEnd : Option Command → CallEnd → Streams → Streams → Type 0
-IsEnd None end old new = end ≡ Usage
-IsEnd (Some command) end old new = (outcome : Outcome) × (end ≡ Ended command outcome) × (outcome ≢ Done) × IsCaused outcome old new
+-- the end of a call of these words, which is not done
+abbrev pub IsEnd : Option Command → CallEnd → Type 0
+IsEnd None end = end ≡ Usage
+IsEnd (Some command) end = (outcome : Outcome) × (end ≡ Ended command outcome) × (outcome ≢ Done)
 
 -- ---- status 3: a read failed
 
 -- of a script the whole lines taken are good, done and written; a filter wrote nothing; err has the message
-pub record AfterReadFault (command : Command) (old new : Streams) (from at : Machine) : Type 0 where
-  pub left : Left (Ended command ReadFault) old new from at
+pub record AfterReadFault (command : Command) (old new : Streams) (from at : Machine) (spans : List Span) : Type 0 where
+  pub left : Left (Ended command ReadFault) old new from at spans
   pub told : Appends old.err new.err (outcome_message ReadFault)
+  pub faults : FaultsOn true false false old new
 
 -- ---- status 4: a put failed
 
 -- on out: a transcript line or the text of a filter is not whole, and err has the message, or its put failed too
-pub record OutFailed (command : Command) (old new : Streams) (from at : Machine) : Type 0 where
-  pub rose : Rose old.out_faults new.out_faults
-  pub left : Left (Ended command WriteFault) old new from at
-  pub told : Appends old.err new.err (outcome_message WriteFault)
-      ⊎ (Rose old.err_faults new.err_faults × AppendsFront old.err new.err (outcome_message WriteFault))
+pub record OutFailed (command : Command) (old new : Streams) (from at : Machine) (spans : List Span) : Type 0 where
+  pub left : Left (Ended command WriteFault) old new from at spans
+  pub told : (FaultsOn false true false old new × Appends old.err new.err (outcome_message WriteFault))
+      ⊎ (FaultsOn false true true old new × AppendsFront old.err new.err (outcome_message WriteFault))
 
 -- on err alone: the message of another end is not whole, and the rest is as that end leaves it
-pub record ErrFailed (task : Option Command) (old new : Streams) (from at : Machine) : Type 0 where
+pub record ErrFailed (task : Option Command) (old new : Streams) (from at : Machine) (spans : List Span) : Type 0 where
   pub end : CallEnd
-  pub is : IsEnd task end old new
+  pub is : IsEnd task end
   pub other : (command : Command) → end ≢ Ended command WriteFault
-  pub rose : Rose old.err_faults new.err_faults
-  pub left : Left end old new from at
+  pub left : Left end old new from at spans
   pub told : AppendsFront old.err new.err (end_message end)
+  pub faults : FaultsOn (read_failed end) false true old new
 
 -- where the words are no command, there is only the message on them
-abbrev pub AfterWriteFault : Option Command → Streams → Streams → Machine → Machine → Type 0
-AfterWriteFault None old new from at = ErrFailed None old new from at
-AfterWriteFault (Some command) old new from at = OutFailed command old new from at ⊎ ErrFailed (Some command) old new from at
+abbrev pub AfterWriteFault : Option Command → Streams → Streams → Machine → Machine → List Span → Type 0
+AfterWriteFault None old new from at spans = ErrFailed None old new from at spans
+AfterWriteFault (Some command) old new from at spans = OutFailed command old new from at spans ⊎ ErrFailed (Some command) old new from at spans
 
 -- ---- status 5: memory ran out
 
 -- for the command, and err has the message
-pub record CommandWanted (command : Command) (old new : Streams) (from at : Machine) : Type 0 where
-  pub left : Left (Ended command NoMemory) old new from at
+pub record CommandWanted (command : Command) (old new : Streams) (from at : Machine) (spans : List Span) : Type 0 where
+  pub left : Left (Ended command NoMemory) old new from at spans
   pub told : Appends old.err new.err (outcome_message NoMemory)
+  pub faults : FaultsOn false false false old new
 
 -- for the put of the message of some end
-pub record MessageWanted (task : Option Command) (old new : Streams) (from at : Machine) : Type 0 where
+pub record MessageWanted (task : Option Command) (old new : Streams) (from at : Machine) (spans : List Span) : Type 0 where
   pub end : CallEnd
-  pub is : IsEnd task end old new
-  pub left : Left end old new from at
+  pub is : IsEnd task end
+  pub left : Left end old new from at spans
   pub told : AppendsFront old.err new.err (end_message end)
+  pub faults : FaultsOn (read_failed end) (put_failed end) false old new
 
-abbrev pub AfterWant : Option Command → Streams → Streams → Machine → Machine → Type 0
-AfterWant None old new from at = MessageWanted None old new from at
-AfterWant (Some command) old new from at = CommandWanted command old new from at ⊎ MessageWanted (Some command) old new from at
+abbrev pub AfterWant : Option Command → Streams → Streams → Machine → Machine → List Span → Type 0
+AfterWant None old new from at spans = MessageWanted None old new from at spans
+AfterWant (Some command) old new from at spans = CommandWanted command old new from at spans ⊎ MessageWanted (Some command) old new from at spans
 
 -- ---- every status
 
--- what stands after a call that answered this status
-pub record Answered (task : Option Command) (status : ℕ) (old new : Streams) (from at : Machine) : Type 0 where
-  pub text : status ≤ 2 → IsText task old new status from at
-  pub read_fault : status ≡ 3 → (command : Command) × (task ≡ Some command) × AfterReadFault command old new from at
-  pub write_fault : status ≡ 4 → AfterWriteFault task old new from at
-  pub no_memory : status ≡ 5 → AfterWant task old new from at
+-- what stands after a call that answered this status and handed these spans back
+pub record Answered (task : Option Command) (status : ℕ) (old new : Streams) (from at : Machine) (spans : List Span) : Type 0 where
+  pub text : status ≤ 2 → IsText task old new status from at spans
+  pub read_fault : status ≡ 3 → (command : Command) × (task ≡ Some command) × AfterReadFault command old new from at spans
+  pub write_fault : status ≡ 4 → AfterWriteFault task old new from at spans
+  pub no_memory : status ≡ 5 → AfterWant task old new from at spans

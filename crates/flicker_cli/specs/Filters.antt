@@ -3,6 +3,7 @@
 use Rattle.std.specs.Prelude.{◌≡◌, ℕ, ◌==◌, ◌||◌, not, nat_lt, Bool, List, [], ◌++◌, length, filter, codes, Option, Some, None, Result, Ok, Err, if◌then◌else◌}
 use Rattle.hex.specs.Hex.{decode_of, encode_lower}
 use Rattle.sha1.specs.Sha1.{sha1}
+use Rattle.flk_base.specs.Checks.{◌>>=◌}
 use Rattle.slb_image.specs.Faults.{image_fault}
 use Rattle.slb_image.specs.declared.fault.ImageFault.{ImageFault}
 use Rattle.tpm_state.specs.Chain.{value, launch_chain, ◌▷◌}
@@ -18,12 +19,6 @@ use Rattle.flicker_cli.specs.declared.outcome.BadInput.TheVariants.{TooLong, Hex
 -- the most bytes that an input may have
 abbrev pub most_input : ℕ
 most_input = 1048576
-
-infixl 10 ◌>>=◌
--- the second step, where the first found no fault
-abbrev pub ◌>>=◌ : {A B : Type 0} → Result A BadInput → (A → Result B BadInput) → Result B BadInput
-Ok x >>= f = f x
-Err bad >>= f = Err bad
 
 -- the bytes, where there are no more than so many
 abbrev pub at_most : ℕ → List ℕ → Result (List ℕ) BadInput

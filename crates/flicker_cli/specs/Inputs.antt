@@ -100,7 +100,8 @@ pub record TakesPiece (more : Bool) (old new : List ℕ) (source source' : Optio
   pub few : length new ≤ most_input + 1
   pub cases : ((more ≡ true) × (piece ≢ [])) ⊎ ((more ≡ false) × (piece ≡ []) × IsAtEnd source')
 
--- what a function returned, seen by view, is this result, unless memory ran out
+-- what a function returned, seen by view, is this result, unless memory ran out: want of memory is a fault of the
+-- function and none of the input, so the two have different types of faults
 abbrev pub Gives : {X Y : Type 0} → (X → Y) → Result X FilterFault → Result Y BadInput → Type 0
 Gives view (Ok x) wanted = wanted ≡ Ok (view x)
 Gives view (Err (filter.Bad bad)) wanted = wanted ≡ Err bad

@@ -3,6 +3,7 @@ use Rattle.std.specs.Prelude.{◌≡◌, ◌⊎◌, ℕ, List, Option}
 use Rattle.std.specs.Io.KnownBytes.{Appends}
 use Rattle.flk_base.specs.Causes.{Rose}
 use Rattle.flk_base.specs.Told.{AppendsFront}
+use Rattle.region_pool.specs.Spans.{Span}
 use Rattle.flk_run.specs.Parts.{Machine}
 use Rattle.flicker_cli.specs.declared.words.Command.{Command}
 use Rattle.flicker_cli.specs.declared.outcome.Outcome.{Outcome}
@@ -10,26 +11,27 @@ use Rattle.flicker_cli.specs.declared.outcome.Outcome.TheVariants.{Done, BadLine
 use Rattle.flk_run.specs.declared.run.RunEnd.{RunEnd}
 use Rattle.flk_run.specs.declared.run.RunEnd.TheVariants as run
 use Rattle.flicker_cli.specs.Messages.{outcome_message, outcome_status}
-use Rattle.flicker_cli.specs.Answered.{Streams, Ended, IsCaused, Left}
+use Rattle.flicker_cli.specs.Answered.{Streams, Counts, Ended, read_failed, put_failed, Left}
 
--- the message was written, and the status is this one; or its put failed, and it is 4; or memory ran out
--- for it, and it is 5
+-- the message was written, and the status is this one; or its put failed, which alone is counted, and it is 4; or
+-- memory ran out for it, and it is 5
 abbrev pub Tried : List ℕ → ℕ → Option (List ℕ) → Option (List ℕ) → ℕ → ℕ → ℕ → Type 0
 Tried message wanted err err' before now status =
-    ((status ≡ wanted) × Appends err err' message)
+    ((status ≡ wanted) × (now ≡ before) × Appends err err' message)
     ⊎ ((status ≡ 4) × Rose before now × AppendsFront err err' message)
-    ⊎ ((status ≡ 5) × AppendsFront err err' message)
+    ⊎ ((status ≡ 5) × (now ≡ before) × AppendsFront err err' message)
 
 -- what was told of an outcome, and the status: nothing is told where all is done
 abbrev pub Told : Outcome → Option (List ℕ) → Option (List ℕ) → ℕ → ℕ → ℕ → Type 0
-Told Done err err' before now status = (status ≡ 0) × (err' ≡ err)
+Told Done err err' before now status = (status ≡ 0) × (now ≡ before) × (err' ≡ err)
 Told outcome err err' before now status = Tried (outcome_message outcome) (outcome_status outcome) err err' before now status
 
--- the command ended so, and told it
-pub record Ends (command : Command) (outcome : Outcome) (old new : Streams) (status : ℕ) (from at : Machine) : Type 0 where
-  pub left : Left (Ended command outcome) old new from at
+-- the command ended so, counted the fault that it names and no other, and told it
+pub record Ends (command : Command) (outcome : Outcome) (old new : Streams) (status : ℕ) (from at : Machine) (spans : List Span) : Type 0 where
+  pub left : Left (Ended command outcome) old new from at spans
   pub told : Told outcome old.err new.err old.err_faults new.err_faults status
-  pub caused : IsCaused outcome old new
+  pub source : Counts (read_failed (Ended command outcome)) old.source_faults new.source_faults
+  pub out : Counts (put_failed (Ended command outcome)) old.out_faults new.out_faults
 
 -- the outcome of a run
 abbrev pub outcome_of : RunEnd → Outcome

@@ -1,5 +1,5 @@
 // The filters: what is made of an input, and how a filter runs.
-ghost use Rattle.std.specs.Prelude.{◌≡◌, ◌≤◌, ◌++◌, not, filter, codes, IfOk, IfErr};
+ghost use Rattle.std.specs.Prelude.{◌≡◌, ◌≢◌, ◌≤◌, ◌++◌, not, filter, codes, IfOk, IfErr};
 ghost use Rattle.hex.specs.Hex.{encode_lower};
 ghost use Rattle.flk_base.specs.Causes.{Rose};
 ghost use Rattle.flicker_cli.specs.Filters.{is_space, hex_of, assembled, code_in};
@@ -127,6 +127,7 @@ fn write<K: Sink>(text: &[u8], out: &mut K) -> Outcome
     ensures written { TextWritten result (K.contents out.old) (K.contents out.new) text.now }
     ensures later { K.fault_count out.old ≤ K.fault_count out.new }
     ensures cause { result ≡ Outcome.WriteFault → Rose (K.fault_count out.old) (K.fault_count out.new) }
+    ensures stays { result ≢ Outcome.WriteFault → K.fault_count out.new ≡ K.fault_count out.old }
 {
     if text.is_empty() {
         return Outcome::Done;
@@ -151,6 +152,8 @@ pub fn run_filter<S: Source, K: Sink>(
     ensures later_out { K.fault_count out.old ≤ K.fault_count out.new }
     ensures read { result ≡ Outcome.ReadFault → Rose (S.fault_count source.old) (S.fault_count source.new) }
     ensures write { result ≡ Outcome.WriteFault → Rose (K.fault_count out.old) (K.fault_count out.new) }
+    ensures source_stays { result ≢ Outcome.ReadFault → S.fault_count source.new ≡ S.fault_count source.old }
+    ensures out_stays { result ≢ Outcome.WriteFault → K.fault_count out.new ≡ K.fault_count out.old }
 {
     let mut input = Bytes::new(alloc);
     match read_input(alloc, &mut input, source) {

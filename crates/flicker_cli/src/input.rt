@@ -1,5 +1,5 @@
 // Reads the whole input of a filter.
-ghost use Rattle.std.specs.Prelude.{◌≡◌, ◌≤◌, [], length, IfOk, OnErr};
+ghost use Rattle.std.specs.Prelude.{◌≡◌, ◌≢◌, ◌≤◌, [], length, IfOk, OnOk, OnErr};
 ghost use Rattle.flk_base.specs.Causes.{HasCause, Rose};
 ghost use Rattle.flk_base.specs.Told.{KeepsWhereTold};
 ghost use Rattle.flicker_cli.specs.Filters.{most_input};
@@ -32,6 +32,7 @@ pub fn read_input<S: Source>(alloc: Global, input: &mut Bytes, source: &mut S) -
     ensures read { InputRead result (S.left source.old) (S.left source.new) input.new.bytes }
     ensures later { S.fault_count source.old ≤ S.fault_count source.new }
     ensures cause { result ≡ InputEnd.Failed → Rose (S.fault_count source.old) (S.fault_count source.new) }
+    ensures stays { result ≢ InputEnd.Failed → S.fault_count source.new ≡ S.fault_count source.old }
 {
     let Ok(mut buffer) = zeros(alloc, READ_SIZE) else {
         return InputEnd::NoMemory;
@@ -72,6 +73,7 @@ fn read_piece<S: Source>(
     ensures kept { OnErr result (KeepsWhereTold (S.left source.old) (S.left source.new)) }
     ensures unread { OnErr result (input.new.bytes ≡ input.old.bytes) }
     ensures cause { HasCause (S.fault_count source.old) (S.fault_count source.new) result }
+    ensures stays { OnOk result (S.fault_count source.new ≡ S.fault_count source.old) }
 {
     let most = (MOST_INPUT + 1 - input.as_slice().len()).min(READ_SIZE);
     let count = source.read(&mut buffer[..most])?;

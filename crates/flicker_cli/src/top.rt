@@ -1,5 +1,5 @@
 // The top call.
-ghost use Rattle.std.specs.Prelude.{◌≡◌, ◌⊎◌, ◌≤◌, ℕ, List, [], map, true, Some, None, string_bytes};
+ghost use Rattle.std.specs.Prelude.{◌≡◌, ◌≢◌, ◌⊎◌, ◌≤◌, ℕ, List, [], map, true, Some, None, string_bytes};
 ghost use Rattle.std.specs.FinMap.{empty};
 ghost use Rattle.flk_base.specs.Causes.{Rose};
 ghost use Rattle.flk_run.specs.Parts.{HoldsSpans};
@@ -48,7 +48,7 @@ pub fn flicker<S: Source, K: Sink, E: Sink>(
           out_faults = K.fault_count out.new;
           err_faults = E.fault_count err.new;
         })
-        (record { board = board; disk = disk }) (record { board = result.board; disk = result.disk }) }
+        (record { board = board; disk = disk }) (record { board = result.board; disk = result.disk }) result.spans }
 
     // There is no other status, and each has its cause.
     ensures known { result.status ≤ 5 }
@@ -110,7 +110,7 @@ fn run<S: Source, K: Sink, E: Sink>(
           out_faults = K.fault_count out.new;
           err_faults = E.fault_count err.new;
         })
-        result.1 runner.machine result.0.machine }
+        result.1 runner.machine result.0.machine result.0.spans }
 {
     let mut room = Bytes::new(alloc);
     if room.reserve(MESSAGE_ROOM).is_err() {
@@ -135,6 +135,8 @@ fn carry_out<S: Source, K: Sink>(
     ensures later_out { K.fault_count out.old ≤ K.fault_count out.new }
     ensures read { result.1 ≡ Outcome.ReadFault → Rose (S.fault_count source.old) (S.fault_count source.new) }
     ensures write { result.1 ≡ Outcome.WriteFault → Rose (K.fault_count out.old) (K.fault_count out.new) }
+    ensures source_stays { result.1 ≢ Outcome.ReadFault → S.fault_count source.new ≡ S.fault_count source.old }
+    ensures out_stays { result.1 ≢ Outcome.WriteFault → K.fault_count out.new ≡ K.fault_count out.old }
 {
     match command {
         Command::Run => {
@@ -166,6 +168,7 @@ fn finished(runner: Runner, status: u8) -> Finished
     ensures status { result.status ≡ status }
     ensures board { result.board ≡ runner.machine.board }
     ensures disk { result.disk ≡ runner.machine.disk }
+    ensures spans { result.spans ≡ runner.spans }
     ensures held { HoldsSpans result.board.memory.marks result.spans }
 {
     let (board, disk, spans) = runner.finish();

@@ -9,7 +9,7 @@ invariant-reads g l = record {
   consumed : Consumes (g.S.Source.left l.fn.source) (g.S.Source.left l.source) l.input.bytes;
   few : length l.input.bytes ≤ most_input + 1;
   size : vec_len l.buffer ≡ 65536;
-  later : g.S.Source.fault_count l.fn.source ≤ g.S.Source.fault_count l.source;
+  stays : g.S.Source.fault_count l.source ≡ g.S.Source.fault_count l.fn.source;
 }
 
 abbrev pub decreases-reads : goal.decreases-reads

@@ -1,5 +1,6 @@
+use Rattle.std.proofs.Common.{refl}
 use Rattle.flicker_cli.specs.declared.outcome.Outcome.TheVariants.{NoMemory}
-use Rattle.flicker_cli.proofs.TopLemmas.{wants_first, left_of}
+use Rattle.flicker_cli.proofs.TopLemmas.{wants_first, left_of, counts_read, counts_put}
 use Rattle.flicker_cli.proofs.top.run.Goals as goal
 
 pub returns-then-is_err : goal.returns-then-is_err
@@ -8,7 +9,8 @@ returns-then-is_err g c = (
   record {
     left = left_of c.args.command NoMemory _ _ _ _ c.args.runner c.args.runner c.requires.unbound c.requires.untaken (wants_first c.args.command _ _ c.args.runner);
     told = c.say-status.ensures.tried;
-    caused = record { read = λ f. absurd (cc); write = λ f. absurd (cc) };
+    source = refl;
+    out = refl;
   },
 )
 
@@ -18,6 +20,7 @@ returns g c = (
   record {
     left = left_of c.args.command c.carry_out-runner.result.1 _ _ _ _ c.args.runner c.carry_out-runner.result.0 c.requires.unbound c.requires.untaken c.carry_out-runner.ensures.ran;
     told = c.tell-status.ensures.told;
-    caused = record { read = c.carry_out-runner.ensures.read; write = c.carry_out-runner.ensures.write };
+    source = counts_read c.args.command c.carry_out-runner.result.1 _ _ c.carry_out-runner.ensures.read c.carry_out-runner.ensures.source_stays;
+    out = counts_put c.args.command c.carry_out-runner.result.1 _ _ c.carry_out-runner.ensures.write c.carry_out-runner.ensures.out_stays;
   },
 )
