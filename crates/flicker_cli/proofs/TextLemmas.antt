@@ -146,7 +146,7 @@ module _ (old new : Streams) (status : ℕ) (from at : Machine) (spans : List Sp
 
   text_bad_line : (command : Command) (n : ℕ) (bad : Bad) → Ends command (BadLine n bad) old new status from at spans → status ≤ 2 → IsText (Some command) old new status from at spans
   text_bad_line Run n bad e few =
-      let w = whole_message _ 1 old.err new.err old.err_faults new.err_faults status e.told (omega arith) in
+      let w = whole_message _ _ 1 old.err new.err old.err_faults new.err_faults status e.told (omega arith) in
       text_script old new status from (record { machine = at; variables = e.left.0; spans = spans }) (Some (n, bad)) e.left.1 w.2 w.0 (λ zero. absurd (omega (arith, w.0)))
       (record { source = e.source; out = e.out; err = w.1 })
   text_bad_line (Filter which) n bad e few = absurd e.left.1.0
@@ -154,21 +154,21 @@ module _ (old new : Streams) (status : ℕ) (from at : Machine) (spans : List Sp
   text_bad_input : (command : Command) (bad : Fault) → Ends command (BadInput bad) old new status from at spans → status ≤ 2 → IsText (Some command) old new status from at spans
   text_bad_input Run bad e few = absurd e.left.1
   text_bad_input (Filter which) bad e few =
-      let w = whole_message _ 1 old.err new.err old.err_faults new.err_faults status e.told (omega arith) in
+      let w = whole_message _ _ 1 old.err new.err old.err_faults new.err_faults status e.told (omega arith) in
       text_refused which bad old new status from at spans e.left.1.0 (same_machine e.left.1.1) (same_spans e.left.1.1) w.2 w.0 (record { source = e.source; out = e.out; err = w.1 })
 
   pub text_command : (command : Command) (outcome : Outcome) → Ends command outcome old new status from at spans → status ≤ 2 → IsText (Some command) old new status from at spans
   text_command command Done e few = text_done command e
   text_command command (BadLine n bad) e few = text_bad_line command n bad e few
   text_command command (BadInput bad) e few = text_bad_input command bad e few
-  text_command command ReadFault e few = let w = whole_message _ 3 old.err new.err old.err_faults new.err_faults status e.told (omega arith) in absurd (omega (arith, w.0))
-  text_command command WriteFault e few = let w = whole_message _ 4 old.err new.err old.err_faults new.err_faults status e.told (omega arith) in absurd (omega (arith, w.0))
-  text_command command NoMemory e few = let w = whole_message _ 5 old.err new.err old.err_faults new.err_faults status e.told (omega arith) in absurd (omega (arith, w.0))
+  text_command command ReadFault e few = let w = whole_message _ _ 3 old.err new.err old.err_faults new.err_faults status e.told (omega arith) in absurd (omega (arith, w.0))
+  text_command command WriteFault e few = let w = whole_message _ _ 4 old.err new.err old.err_faults new.err_faults status e.told (omega arith) in absurd (omega (arith, w.0))
+  text_command command NoMemory e few = let w = whole_message _ _ 5 old.err new.err old.err_faults new.err_faults status e.told (omega arith) in absurd (omega (arith, w.0))
 
-  pub text_usage : Untouched old new from at spans → Tried usage_message 2 old.err new.err old.err_faults new.err_faults status
+  pub text_usage : Untouched old new from at spans → Tried old.err_wants usage_message 2 old.err new.err old.err_faults new.err_faults status
       → new.source_faults ≡ old.source_faults → new.out_faults ≡ old.out_faults → status ≤ 2 → IsText None old new status from at spans
   text_usage u t source out few =
-      let w = whole_message usage_message 2 old.err new.err old.err_faults new.err_faults status t (omega arith) in
+      let w = whole_message _ usage_message 2 old.err new.err old.err_faults new.err_faults status t (omega arith) in
       record {
         taken = [];
         ended = the_end false new.source;

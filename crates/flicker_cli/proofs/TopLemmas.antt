@@ -1,5 +1,5 @@
 -- What the end of a call and its message say of the call.
-use Rattle.std.proofs.Common.{◌≡◌, ◌≢◌, ◌⊎◌, inl, inr, ℕ, ◌≤◌, true, false, List, [], refl, subst, arith}
+use Rattle.std.proofs.Common.{◌≡◌, ◌≢◌, ◌⊎◌, inl, inr, ℕ, ◌≤◌, Bool, true, false, List, [], refl, subst, arith}
 use Rattle.std.specs.Prelude.{Option, Some, None}
 use Rattle.std.specs.FinMap.{empty}
 use Rattle.region_pool.specs.Spans.{Span}
@@ -26,26 +26,26 @@ module _ (command : Command) (old new : Streams) (status : ℕ) (from at : Machi
 
   read_fault : (outcome : Outcome) → Ends command outcome old new status from at spans → status ≡ 3 → AfterReadFault command old new from at spans
   read_fault Done e is = absurd (omega (arith, e.told.0))
-  read_fault (BadLine n bad) e is = let w = tried_status _ 1 old.err new.err old.err_faults new.err_faults status e.told in absurd (omega arith)
-  read_fault (BadInput bad) e is = let w = tried_status _ 1 old.err new.err old.err_faults new.err_faults status e.told in absurd (omega arith)
+  read_fault (BadLine n bad) e is = let w = tried_status _ _ 1 old.err new.err old.err_faults new.err_faults status e.told in absurd (omega arith)
+  read_fault (BadInput bad) e is = let w = tried_status _ _ 1 old.err new.err old.err_faults new.err_faults status e.told in absurd (omega arith)
   read_fault ReadFault e is =
-      let w = whole_message _ 3 old.err new.err old.err_faults new.err_faults status e.told (omega arith) in
+      let w = whole_message _ _ 3 old.err new.err old.err_faults new.err_faults status e.told (omega arith) in
       record { left = e.left; told = w.2; faults = record { source = e.source; out = e.out; err = w.1 } }
-  read_fault WriteFault e is = let w = tried_status _ 4 old.err new.err old.err_faults new.err_faults status e.told in absurd (omega arith)
-  read_fault NoMemory e is = let w = tried_status _ 5 old.err new.err old.err_faults new.err_faults status e.told in absurd (omega arith)
+  read_fault WriteFault e is = let w = tried_status _ _ 4 old.err new.err old.err_faults new.err_faults status e.told in absurd (omega arith)
+  read_fault NoMemory e is = let w = tried_status _ _ 5 old.err new.err old.err_faults new.err_faults status e.told in absurd (omega arith)
 
   -- ---- status 4
 
   -- the message of an outcome was cut
-  err_failed : (outcome : Outcome) (wanted : ℕ) → Ends command outcome old new status from at spans → Tried (outcome_message outcome) wanted old.err new.err old.err_faults new.err_faults status
+  err_failed : (outcome : Outcome) (wanted : ℕ) → Ends command outcome old new status from at spans → Tried old.err_wants (outcome_message outcome) wanted old.err new.err old.err_faults new.err_faults status
       → status ≡ 4 → wanted ≢ 4 → outcome ≢ Done → outcome ≢ WriteFault → new.out_faults ≡ old.out_faults → ErrFailed (Some command) old new from at spans
   err_failed outcome wanted e t is low some other out =
-      let w = failed_message _ wanted old.err new.err old.err_faults new.err_faults status t is low in
+      let w = failed_message _ _ wanted old.err new.err old.err_faults new.err_faults status t is low in
       record { end = Ended command outcome; is = (outcome, refl, some); other = λ c f. other (cc); left = e.left; told = w.1; faults = record { source = e.source; out = out; err = w.0 } }
 
   out_failed : Ends command WriteFault old new status from at spans → status ≡ 4
       → (FaultsOn false true false old new × Appends old.err new.err (outcome_message WriteFault)) ⊎ (FaultsOn false true true old new × AppendsFront old.err new.err (outcome_message WriteFault))
-  out_failed e is = elim (out_message _ 4 old.err new.err old.err_faults new.err_faults status e.told is) [
+  out_failed e is = elim (out_message _ _ 4 old.err new.err old.err_faults new.err_faults status e.told is) [
     | inl whole ↦ inl (record { source = e.source; out = e.out; err = whole.0 }, whole.1)
     | inr front ↦ inr (record { source = e.source; out = e.out; err = front.0 }, front.1)
   ]
@@ -60,11 +60,11 @@ module _ (command : Command) (old new : Streams) (status : ℕ) (from at : Machi
 
   -- ---- status 5
 
-  message_wanted : (outcome : Outcome) (wanted : ℕ) → Ends command outcome old new status from at spans → Tried (outcome_message outcome) wanted old.err new.err old.err_faults new.err_faults status
+  message_wanted : (outcome : Outcome) (wanted : ℕ) → Ends command outcome old new status from at spans → Tried old.err_wants (outcome_message outcome) wanted old.err new.err old.err_faults new.err_faults status
       → status ≡ 5 → wanted ≢ 5 → outcome ≢ Done → MessageWanted (Some command) old new from at spans
   message_wanted outcome wanted e t is low some =
-      let w = want_message _ wanted old.err new.err old.err_faults new.err_faults status t is low in
-      record { end = Ended command outcome; is = (outcome, refl, some); left = e.left; told = w.1; faults = record { source = e.source; out = e.out; err = w.0 } }
+      let w = want_message _ _ wanted old.err new.err old.err_faults new.err_faults status t is low in
+      record { end = Ended command outcome; is = (outcome, refl, some); may = w.0; left = e.left; told = w.2; faults = record { source = e.source; out = e.out; err = w.1 } }
 
   want : (outcome : Outcome) → Ends command outcome old new status from at spans → status ≡ 5 → AfterWant (Some command) old new from at spans
   want Done e is = absurd (omega (arith, e.told.0))
@@ -72,9 +72,9 @@ module _ (command : Command) (old new : Streams) (status : ℕ) (from at : Machi
   want (BadInput bad) e is = inr (message_wanted (BadInput bad) 1 e e.told is (λ f. absurd (omega arith)) (λ f. absurd (cc)))
   want ReadFault e is = inr (message_wanted ReadFault 3 e e.told is (λ f. absurd (omega arith)) (λ f. absurd (cc)))
   want WriteFault e is = inr (message_wanted WriteFault 4 e e.told is (λ f. absurd (omega arith)) (λ f. absurd (cc)))
-  want NoMemory e is = elim (memory_message _ 5 old.err new.err old.err_faults new.err_faults status e.told is) [
+  want NoMemory e is = elim (memory_message _ _ 5 old.err new.err old.err_faults new.err_faults status e.told is) [
     | inl whole ↦ inl (record { left = e.left; told = whole.1; faults = record { source = e.source; out = e.out; err = whole.0 } })
-    | inr front ↦ inr (record { end = Ended command NoMemory; is = (NoMemory, refl, λ f. absurd (cc)); left = e.left; told = front.1; faults = record { source = e.source; out = e.out; err = front.0 } })
+    | inr front ↦ inr (record { end = Ended command NoMemory; is = (NoMemory, refl, λ f. absurd (cc)); may = front.0; left = e.left; told = front.2; faults = record { source = e.source; out = e.out; err = front.1 } })
   ]
 
   -- ---- every status
@@ -95,13 +95,13 @@ module _ (command : Command) (old new : Streams) (status : ℕ) (from at : Machi
     pub read : status ≡ 3 → Rose old.source_faults new.source_faults
     pub write : status ≡ 4 → Rose old.out_faults new.out_faults ⊎ Rose old.err_faults new.err_faults
 
-  err_rose : (m : List ℕ) (wanted : ℕ) → Tried m wanted old.err new.err old.err_faults new.err_faults status → status ≡ 4 → wanted ≢ 4 → Rose old.err_faults new.err_faults
-  err_rose m wanted t is other = (failed_message m wanted old.err new.err old.err_faults new.err_faults status t is other).0
+  err_rose : (m : List ℕ) (wanted : ℕ) → Tried old.err_wants m wanted old.err new.err old.err_faults new.err_faults status → status ≡ 4 → wanted ≢ 4 → Rose old.err_faults new.err_faults
+  err_rose m wanted t is other = (failed_message _ m wanted old.err new.err old.err_faults new.err_faults status t is other).0
 
   -- of a message whose status is neither 2, 3 nor 4
-  told_causes : (m : List ℕ) (wanted : ℕ) → Tried m wanted old.err new.err old.err_faults new.err_faults status → wanted ≤ 5 → wanted ≢ 2 → wanted ≢ 3 → wanted ≢ 4 → Causes
+  told_causes : (m : List ℕ) (wanted : ℕ) → Tried old.err_wants m wanted old.err new.err old.err_faults new.err_faults status → wanted ≤ 5 → wanted ≢ 2 → wanted ≢ 3 → wanted ≢ 4 → Causes
   told_causes m wanted t few two three four =
-      let s = tried_status m wanted old.err new.err old.err_faults new.err_faults status t in
+      let s = tried_status _ m wanted old.err new.err old.err_faults new.err_faults status t in
       record { known = omega arith; not_usage = λ f. omega arith; read = λ f. absurd (omega arith); write = λ f. inr (err_rose m wanted t f four) }
 
   pub causes_command : (outcome : Outcome) → Ends command outcome old new status from at spans → Causes
@@ -109,10 +109,10 @@ module _ (command : Command) (old new : Streams) (status : ℕ) (from at : Machi
   causes_command (BadLine n bad) e = told_causes _ 1 e.told (omega arith) (λ f. absurd (omega arith)) (λ f. absurd (omega arith)) (λ f. absurd (omega arith))
   causes_command (BadInput bad) e = told_causes _ 1 e.told (omega arith) (λ f. absurd (omega arith)) (λ f. absurd (omega arith)) (λ f. absurd (omega arith))
   causes_command ReadFault e =
-      let s = tried_status _ 3 old.err new.err old.err_faults new.err_faults status e.told in
+      let s = tried_status _ _ 3 old.err new.err old.err_faults new.err_faults status e.told in
       record { known = omega arith; not_usage = λ f. omega arith; read = λ f. e.source; write = λ f. inr (err_rose _ 3 e.told f (λ g. absurd (omega arith))) }
   causes_command WriteFault e =
-      let s = tried_status _ 4 old.err new.err old.err_faults new.err_faults status e.told in
+      let s = tried_status _ _ 4 old.err new.err old.err_faults new.err_faults status e.told in
       record { known = omega arith; not_usage = λ f. omega arith; read = λ f. absurd (omega arith); write = λ f. inl (e.out) }
   causes_command NoMemory e = told_causes _ 5 e.told (omega arith) (λ f. absurd (omega arith)) (λ f. absurd (omega arith)) (λ f. absurd (omega arith))
 
@@ -126,7 +126,7 @@ module _ (command : Command) (old new : Streams) (status : ℕ) (from at : Machi
   complete_command (BadInput bad) content e same good = absurd (no_bad_input content old new status from at spans command bad e same good)
   complete_command ReadFault content e same good = inr (inr (inl (e.source)))
   complete_command WriteFault content e same good = inr (inr (inr (inl (e.out))))
-  complete_command NoMemory content e same good = elim (tried_status _ 5 old.err new.err old.err_faults new.err_faults status e.told) [
+  complete_command NoMemory content e same good = elim (tried_status _ _ 5 old.err new.err old.err_faults new.err_faults status e.told) [
     | inl five ↦ inr (inl five)
     | inr other ↦ elim other [
       | inl four ↦ inr (inr (inr (inr (err_rose _ 5 e.told four (λ g. absurd (omega arith))))))
@@ -136,36 +136,36 @@ module _ (command : Command) (old new : Streams) (status : ℕ) (from at : Machi
 
 -- ---- words that are no command
 
-pub answered_usage : (old new : Streams) (status : ℕ) (from at : Machine) (spans : List Span) → Untouched old new from at spans → Tried usage_message 2 old.err new.err old.err_faults new.err_faults status
+pub answered_usage : (old new : Streams) (status : ℕ) (from at : Machine) (spans : List Span) → Untouched old new from at spans → Tried old.err_wants usage_message 2 old.err new.err old.err_faults new.err_faults status
     → new.source_faults ≡ old.source_faults → new.out_faults ≡ old.out_faults → Answered None status old new from at spans
 answered_usage old new status from at spans u t source out =
-    let s = tried_status usage_message 2 old.err new.err old.err_faults new.err_faults status t in
+    let s = tried_status _ usage_message 2 old.err new.err old.err_faults new.err_faults status t in
     record {
       text = λ few. text_usage old new status from at spans u t source out few;
       read_fault = λ is. absurd (omega arith);
       write_fault = λ is.
-          let w = failed_message _ 2 old.err new.err old.err_faults new.err_faults status t is (λ f. absurd (omega arith)) in
+          let w = failed_message _ _ 2 old.err new.err old.err_faults new.err_faults status t is (λ f. absurd (omega arith)) in
           record { end = Usage; is = refl; other = λ c f. absurd (cc); left = u; told = w.1; faults = record { source = source; out = out; err = w.0 } };
       no_memory = λ is.
-          let w = want_message _ 2 old.err new.err old.err_faults new.err_faults status t is (λ f. absurd (omega arith)) in
-          record { end = Usage; is = refl; left = u; told = w.1; faults = record { source = source; out = out; err = w.0 } };
+          let w = want_message _ _ 2 old.err new.err old.err_faults new.err_faults status t is (λ f. absurd (omega arith)) in
+          record { end = Usage; is = refl; may = w.0; left = u; told = w.2; faults = record { source = source; out = out; err = w.1 } };
     }
 
 -- ---- want of memory before anything was read
 
-pub wants_first : (command : Command) (source out : Option (List ℕ)) (from : Experiment) → CommandRan command NoMemory source source out out from from
-wants_first Run source out from = wants_all source out from
-wants_first (Filter which) source out from = (inl (record { taken = []; takes = takes_none source [] refl; unwritten = refl }), refl)
+pub wants_first : (wants : Bool) (command : Command) (source out : Option (List ℕ)) (from : Experiment) → CommandRan wants command NoMemory source source out out from from
+wants_first wants Run source out from = wants_all wants source out from
+wants_first wants (Filter which) source out from = (inl (record { taken = []; takes = takes_none source [] refl; unwritten = refl }), refl)
 
 -- ---- from a runner to its machine
 
 -- what a command did that began with no name bound and no span taken
-pub left_of : (command : Command) (outcome : Outcome) (s t a b : Option (List ℕ)) (from at : Experiment) → from.variables ≡ empty → from.spans ≡ [] → CommandRan command outcome s t a b from at
-    → (variables : Table) × CommandRan command outcome s t a b (begun from.machine) (record { machine = at.machine; variables = variables; spans = at.spans })
-left_of command outcome s t a b from at unbound untaken ran = (
+pub left_of : (wants : Bool) (command : Command) (outcome : Outcome) (s t a b : Option (List ℕ)) (from at : Experiment) → from.variables ≡ empty → from.spans ≡ [] → CommandRan wants command outcome s t a b from at
+    → (variables : Table) × CommandRan wants command outcome s t a b (begun from.machine) (record { machine = at.machine; variables = variables; spans = at.spans })
+left_of wants command outcome s t a b from at unbound untaken ran = (
   at.variables,
-  subst (λ (spans : List Span). CommandRan command outcome s t a b (record { machine = from.machine; variables = empty; spans = spans }) at) untaken
-      (subst (λ (v : Table). CommandRan command outcome s t a b (record { machine = from.machine; variables = v; spans = from.spans }) at) unbound ran),
+  subst (λ (spans : List Span). CommandRan wants command outcome s t a b (record { machine = from.machine; variables = empty; spans = spans }) at) untaken
+      (subst (λ (v : Table). CommandRan wants command outcome s t a b (record { machine = from.machine; variables = v; spans = from.spans }) at) unbound ran),
 )
 
 -- ---- the counts of an outcome

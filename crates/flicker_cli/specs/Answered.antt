@@ -19,7 +19,8 @@ use Rattle.flicker_cli.specs.Inputs.{FilterRan}
 use Rattle.flicker_cli.specs.Messages.{usage_message, outcome_message}
 use Rattle.flicker_cli.specs.Text.{err_of, status_of, IsOut, platform_of, IsSettled, StopsAt}
 
--- what the source has left and the sinks hold, where it is told, and their counts of faults
+-- what the source has left and the sinks hold, where it is told, their counts of faults, and whether puts on out and
+-- on err may want memory
 pub record Streams : Type 0 where
   pub source : Option (List ℕ)
   pub out : Option (List ℕ)
@@ -27,6 +28,8 @@ pub record Streams : Type 0 where
   pub source_faults : ℕ
   pub out_faults : ℕ
   pub err_faults : ℕ
+  pub out_wants : Bool
+  pub err_wants : Bool
 
 -- a fault came here, and the count of faults rose; or none came, and it stands still
 abbrev pub Counts : Bool → ℕ → ℕ → Type 0
@@ -105,18 +108,18 @@ pub record Untouched (old new : Streams) (from at : Machine) (spans : List Span)
   pub untaken : spans ≡ []
 
 -- what a script that ended so took, did and wrote
-abbrev pub ScriptRan : Outcome → Option (List ℕ) → Option (List ℕ) → Option (List ℕ) → Option (List ℕ) → Experiment → Experiment → Type 0
-ScriptRan Done source source' out out' from at = AllDone None source source' out out' from at
-ScriptRan (BadLine n bad) source source' out out' from at = AllDone (Some (n, bad)) source source' out out' from at
-ScriptRan (BadInput bad) source source' out out' from at = ⊥
-ScriptRan ReadFault source source' out out' from at = ReadShort source source' out out' from at
-ScriptRan WriteFault source source' out out' from at = WrittenShort source source' out out' from at
-ScriptRan NoMemory source source' out out' from at = Wanting source source' out out' from at
+abbrev pub ScriptRan : Bool → Outcome → Option (List ℕ) → Option (List ℕ) → Option (List ℕ) → Option (List ℕ) → Experiment → Experiment → Type 0
+ScriptRan wants Done source source' out out' from at = AllDone None source source' out out' from at
+ScriptRan wants (BadLine n bad) source source' out out' from at = AllDone (Some (n, bad)) source source' out out' from at
+ScriptRan wants (BadInput bad) source source' out out' from at = ⊥
+ScriptRan wants ReadFault source source' out out' from at = ReadShort source source' out out' from at
+ScriptRan wants WriteFault source source' out out' from at = WrittenShort source source' out out' from at
+ScriptRan wants NoMemory source source' out out' from at = Wanting wants source source' out out' from at
 
 -- what a command that ended so took, did and wrote: a filter does nothing to the experiment
-abbrev pub CommandRan : Command → Outcome → Option (List ℕ) → Option (List ℕ) → Option (List ℕ) → Option (List ℕ) → Experiment → Experiment → Type 0
-CommandRan Run outcome source source' out out' from at = ScriptRan outcome source source' out out' from at
-CommandRan (Filter which) outcome source source' out out' from at = FilterRan which outcome source source' out out' × (at ≡ from)
+abbrev pub CommandRan : Bool → Command → Outcome → Option (List ℕ) → Option (List ℕ) → Option (List ℕ) → Option (List ℕ) → Experiment → Experiment → Type 0
+CommandRan wants Run outcome source source' out out' from at = ScriptRan wants outcome source source' out out' from at
+CommandRan wants (Filter which) outcome source source' out out' from at = FilterRan wants which outcome source source' out out' × (at ≡ from)
 
 -- the experiment that a call begins: no name is bound, and there is no ticket
 abbrev pub begun : Machine → Experiment
@@ -126,7 +129,7 @@ begun machine = record { machine = machine; variables = empty; spans = [] }
 abbrev pub Left : CallEnd → Streams → Streams → Machine → Machine → List Span → Type 0
 Left Usage old new from at spans = Untouched old new from at spans
 Left (Ended command outcome) old new from at spans =
-    (variables : Table) × CommandRan command outcome old.source new.source old.out new.out (begun from) (record { machine = at; variables = variables; spans = spans })
+    (variables : Table) × CommandRan old.out_wants command outcome old.source new.source old.out new.out (begun from) (record { machine = at; variables = variables; spans = spans })
 
 -- the end of a call of these words, which is not done
 abbrev pub IsEnd : Option Command → CallEnd → Type 0
@@ -171,9 +174,10 @@ pub record CommandWanted (command : Command) (old new : Streams) (from at : Mach
   pub told : Appends old.err new.err (outcome_message NoMemory)
   pub faults : FaultsOn false false false old new
 
--- for the put of the message of some end
+-- for the put of the message of some end, where err may want some
 pub record MessageWanted (task : Option Command) (old new : Streams) (from at : Machine) (spans : List Span) : Type 0 where
   pub end : CallEnd
+  pub may : old.err_wants ≡ true
   pub is : IsEnd task end
   pub left : Left end old new from at spans
   pub told : AppendsFront old.err new.err (end_message end)

@@ -84,13 +84,13 @@ pub record InputWanting (source source' out out' : Option (List ℕ)) : Type 0 w
   pub unwritten : out' ≡ out
 
 -- what a filter that ended so took and wrote
-abbrev pub FilterRan : Filter → Outcome → Option (List ℕ) → Option (List ℕ) → Option (List ℕ) → Option (List ℕ) → Type 0
-FilterRan which outcome.Done source source' out out' = Filtered which source source' out out'
-FilterRan which (outcome.BadLine n bad) source source' out out' = ⊥
-FilterRan which (outcome.BadInput bad) source source' out out' = Refused which bad source source' out out'
-FilterRan which outcome.ReadFault source source' out out' = InputCut source source' out out'
-FilterRan which outcome.WriteFault source source' out out' = OutputCut which source source' out out'
-FilterRan which outcome.NoMemory source source' out out' = InputWanting source source' out out' ⊎ OutputCut which source source' out out'
+abbrev pub FilterRan : Bool → Filter → Outcome → Option (List ℕ) → Option (List ℕ) → Option (List ℕ) → Option (List ℕ) → Type 0
+FilterRan wants which outcome.Done source source' out out' = Filtered which source source' out out'
+FilterRan wants which (outcome.BadLine n bad) source source' out out' = ⊥
+FilterRan wants which (outcome.BadInput bad) source source' out out' = Refused which bad source source' out out'
+FilterRan wants which outcome.ReadFault source source' out out' = InputCut source source' out out'
+FilterRan wants which outcome.WriteFault source source' out out' = OutputCut which source source' out out'
+FilterRan wants which outcome.NoMemory source source' out out' = InputWanting source source' out out' ⊎ ((wants ≡ true) × OutputCut which source source' out out')
 
 -- a read gave a piece that has bytes, or the end
 pub record TakesPiece (more : Bool) (old new : List ℕ) (source source' : Option (List ℕ)) : Type 0 where
@@ -113,9 +113,9 @@ GivesText which input (Ok text) = Makes which input text.bytes
 GivesText which input (Err (filter.Bad bad)) = fault_in which input ≡ Some bad
 GivesText which input (Err filter.NoMemory) = Unit {0}
 
--- a text was written, or not all of it
-abbrev pub TextWritten : Outcome → Option (List ℕ) → Option (List ℕ) → List ℕ → Type 0
-TextWritten outcome.Done out out' text = Appends out out' text
-TextWritten outcome.WriteFault out out' text = AppendsPart out out' text
-TextWritten outcome.NoMemory out out' text = AppendsPart out out' text
-TextWritten _ out out' text = ⊥
+-- a text was written, or not all of it; memory runs out for it only where out may want some
+abbrev pub TextWritten : Bool → Outcome → Option (List ℕ) → Option (List ℕ) → List ℕ → Type 0
+TextWritten wants outcome.Done out out' text = Appends out out' text
+TextWritten wants outcome.WriteFault out out' text = AppendsPart out out' text
+TextWritten wants outcome.NoMemory out out' text = (wants ≡ true) × AppendsPart out out' text
+TextWritten wants _ out out' text = ⊥

@@ -124,7 +124,7 @@ fn text_of(alloc: Global, filter: Filter, input: &[u8]) -> Result<Bytes, FilterF
 
 // Writes a text by one put, and one without bytes by none.
 fn write<K: Sink>(text: &[u8], out: &mut K) -> Outcome
-    ensures written { TextWritten result (K.contents out.old) (K.contents out.new) text.now }
+    ensures written { TextWritten (K.takes_memory out.old) result (K.contents out.old) (K.contents out.new) text.now }
     ensures later { K.fault_count out.old ≤ K.fault_count out.new }
     ensures cause { result ≡ Outcome.WriteFault → Rose (K.fault_count out.old) (K.fault_count out.new) }
     ensures stays { result ≢ Outcome.WriteFault → K.fault_count out.new ≡ K.fault_count out.old }
@@ -147,7 +147,7 @@ pub fn run_filter<S: Source, K: Sink>(
     source: &mut S,
     out: &mut K,
 ) -> Outcome
-    ensures ran { FilterRan filter result (S.left source.old) (S.left source.new) (K.contents out.old) (K.contents out.new) }
+    ensures ran { FilterRan (K.takes_memory out.old) filter result (S.left source.old) (S.left source.new) (K.contents out.old) (K.contents out.new) }
     ensures later { S.fault_count source.old ≤ S.fault_count source.new }
     ensures later_out { K.fault_count out.old ≤ K.fault_count out.new }
     ensures read { result ≡ Outcome.ReadFault → Rose (S.fault_count source.old) (S.fault_count source.new) }

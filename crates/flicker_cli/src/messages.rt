@@ -22,7 +22,7 @@ pub const USAGE: &[u8] = b"flicker: usage: flicker run, asm, dis, measure, verif
 
 /// Tries a message, by one put, and answers the status: this one where it is written.
 pub fn say<E: Sink>(err: &mut E, message: &[u8], status: u8) -> u8
-    ensures tried { Tried message.now status (E.contents err.old) (E.contents err.new) (E.fault_count err.old) (E.fault_count err.new) result }
+    ensures tried { Tried (E.takes_memory err.old) message.now status (E.contents err.old) (E.contents err.new) (E.fault_count err.old) (E.fault_count err.new) result }
     ensures later { E.fault_count err.old ≤ E.fault_count err.new }
 {
     match err.put(message) {
@@ -128,7 +128,7 @@ fn status_of(outcome: Outcome) -> u8
 pub fn tell<E: Sink>(outcome: Outcome, room: &mut Bytes, err: &mut E) -> u8
     requires empty { room.old.bytes ≡ [] }
     requires ample { 64 ≤ room.old.spare }
-    ensures told { Told outcome (E.contents err.old) (E.contents err.new) (E.fault_count err.old) (E.fault_count err.new) result }
+    ensures told { Told (E.takes_memory err.old) outcome (E.contents err.old) (E.contents err.new) (E.fault_count err.old) (E.fault_count err.new) result }
     ensures later { E.fault_count err.old ≤ E.fault_count err.new }
 {
     if outcome == Outcome::Done {

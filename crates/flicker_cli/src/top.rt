@@ -39,6 +39,8 @@ pub fn flicker<S: Source, K: Sink, E: Sink>(
           source_faults = S.fault_count source.old;
           out_faults = K.fault_count out.old;
           err_faults = E.fault_count err.old;
+          out_wants = K.takes_memory out.old;
+          err_wants = E.takes_memory err.old;
         })
         (record {
           source = S.left source.new;
@@ -47,6 +49,8 @@ pub fn flicker<S: Source, K: Sink, E: Sink>(
           source_faults = S.fault_count source.new;
           out_faults = K.fault_count out.new;
           err_faults = E.fault_count err.new;
+          out_wants = K.takes_memory out.new;
+          err_wants = E.takes_memory err.new;
         })
         (record { board = board; disk = disk }) (record { board = result.board; disk = result.disk }) result.spans }
 
@@ -101,6 +105,8 @@ fn run<S: Source, K: Sink, E: Sink>(
           source_faults = S.fault_count source.old;
           out_faults = K.fault_count out.old;
           err_faults = E.fault_count err.old;
+          out_wants = K.takes_memory out.old;
+          err_wants = E.takes_memory err.old;
         })
         (record {
           source = S.left source.new;
@@ -109,6 +115,8 @@ fn run<S: Source, K: Sink, E: Sink>(
           source_faults = S.fault_count source.new;
           out_faults = K.fault_count out.new;
           err_faults = E.fault_count err.new;
+          out_wants = K.takes_memory out.new;
+          err_wants = E.takes_memory err.new;
         })
         result.1 runner.machine result.0.machine result.0.spans }
 {
@@ -130,7 +138,7 @@ fn carry_out<S: Source, K: Sink>(
     out: &mut K,
     runner: Runner,
 ) -> (Runner, Outcome)
-    ensures ran { CommandRan command result.1 (S.left source.old) (S.left source.new) (K.contents out.old) (K.contents out.new) runner result.0 }
+    ensures ran { CommandRan (K.takes_memory out.old) command result.1 (S.left source.old) (S.left source.new) (K.contents out.old) (K.contents out.new) runner result.0 }
     ensures later { S.fault_count source.old ≤ S.fault_count source.new }
     ensures later_out { K.fault_count out.old ≤ K.fault_count out.new }
     ensures read { result.1 ≡ Outcome.ReadFault → Rose (S.fault_count source.old) (S.fault_count source.new) }

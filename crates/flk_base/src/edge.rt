@@ -1,5 +1,5 @@
 // The trusted edge: std's reader and writer, with a count of their faults.
-ghost use Rattle.std.specs.Prelude.{◌≡◌, ◌≢◌, ◌≤◌, [], Err, IsOk, OnOk, OnErr};
+ghost use Rattle.std.specs.Prelude.{◌≡◌, ◌≢◌, ◌≤◌, false, [], Err, IsOk, OnOk, OnErr};
 ghost use Rattle.std.specs.Io.{ReadsAtMost};
 ghost use Rattle.std.specs.Io.KnownBytes.{ReadConsumes, Appends};
 ghost use Rattle.flk_base.specs.Causes.{HasCause, Rose, counted};
@@ -98,6 +98,8 @@ impl<W: Write> Sink for StdSink<W> {
 
     ghost fault_count = { λ s. s.faults };
 
+    ghost takes_memory = { λ s. false };
+
     // A writer that takes nothing of a piece that has bytes counts a fault too.
     fn put(&mut self, piece: &[u8]) -> Result<(), PutFault>
         ensures ok { OnOk result
@@ -107,9 +109,9 @@ impl<W: Write> Sink for StdSink<W> {
         ensures later { self.old.faults ≤ self.new.faults }
         ensures cause { result ≡ Err PutFault.Failed → Rose self.old.faults self.new.faults }
         ensures stays { result ≢ Err PutFault.Failed → self.new.faults ≡ self.old.faults }
-
-        // Beside what the trait says: it takes no memory, and each error counts as one fault.
         ensures no_want { result ≢ Err PutFault.NoMemory }
+
+        // Beside what the trait says: each error counts as one fault.
         ensures raised { OnErr result (self.new.faults ≡ counted self.old.faults) }
         // What the writer itself tells grows by the piece, or by a front of it, also after a fault.
         ensures inner_ok { OnOk result

@@ -1,5 +1,5 @@
 // A source and a sink in memory, which fail the calls that they are told to.
-ghost use Rattle.std.specs.Prelude.{◌≡◌, ◌≢◌, ◌+◌, ◌<◌, ◌≤◌, ◌↔◌, ◌==◌, ℕ, List, [], ◌++◌, Option, Some, length, drop, min, Ok, Contains, IsTrue, IsErr, IfOk, OnOk, OnErr};
+ghost use Rattle.std.specs.Prelude.{◌≡◌, ◌≢◌, ◌+◌, ◌<◌, ◌≤◌, ◌↔◌, ◌==◌, ℕ, List, [], ◌++◌, Option, Some, true, length, drop, min, Ok, Contains, IsTrue, IsErr, IfOk, OnOk, OnErr};
 ghost use Rattle.std.specs.Io.{ReadsAtMost};
 ghost use Rattle.std.specs.Io.KnownBytes.{ReadConsumes, Appends};
 ghost use Rattle.flk_base.specs.Causes.{HasCause, Rose, counted};
@@ -168,6 +168,8 @@ impl Sink for MemSink {
     ghost contents = { λ s. Some s.contents };
 
     ghost fault_count = { λ s. s.faults };
+
+    ghost takes_memory = { λ s. true };
 
     fn put(&mut self, piece: &[u8]) -> Result<(), PutFault>
         ensures ok { OnOk result (Appends (Some self.old.contents) (Some self.new.contents) piece.now) }

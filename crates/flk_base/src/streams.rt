@@ -1,5 +1,5 @@
 // Where bytes come from, and where they go.
-ghost use Rattle.std.specs.Prelude.{◌≡◌, ◌≢◌, ◌<◌, ◌≤◌, ℕ, List, Option, length, OnOk, OnErr};
+ghost use Rattle.std.specs.Prelude.{◌≡◌, ◌≢◌, ◌<◌, ◌≤◌, ℕ, Bool, true, List, Option, length, OnOk, OnErr};
 ghost use Rattle.std.specs.Io.{ReadsAtMost};
 ghost use Rattle.std.specs.Io.KnownBytes.{ReadConsumes, Appends};
 ghost use Rattle.flk_base.specs.Causes.{HasCause, Rose};
@@ -51,6 +51,9 @@ pub trait Sink {
     /// How many faults there have been, up to 2^64 - 1.
     ghost fault_count: { Self → ℕ };
 
+    /// Whether a put may want memory.
+    ghost takes_memory: { Self → Bool };
+
     /// Appends the piece. A fault appends a front of it, and not all of a piece that has bytes.
     fn put(&mut self, piece: &[u8]) -> Result<(), PutFault>
         ensures ok { OnOk result (Appends (contents self.old) (contents self.new) piece.now) }
@@ -58,7 +61,10 @@ pub trait Sink {
         ensures later { fault_count self.old ≤ fault_count self.new }
         ensures cause { result ≡ Err PutFault.Failed → Rose (fault_count self.old) (fault_count self.new) }
         // Nothing but a fault counts, and want of memory is none.
-        ensures stays { result ≢ Err PutFault.Failed → fault_count self.new ≡ fault_count self.old };
+        ensures stays { result ≢ Err PutFault.Failed → fault_count self.new ≡ fault_count self.old }
+        // A sink that takes no memory wants none.
+        ensures want { result ≡ Err PutFault.NoMemory → takes_memory self.old ≡ true }
+        ensures takes { takes_memory self.new ≡ takes_memory self.old };
 
     /// How many faults there have been.
     fn faults(&self) -> u64

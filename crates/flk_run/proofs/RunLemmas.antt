@@ -73,9 +73,9 @@ written_more n before request p a b c mid new count w d =
     }
 
 -- a line was given, done and written
-pub line_done : (k : ℕ) (old new : Held) (s t u a b c : Option (List ℕ)) (from mid at : Experiment)
-    → Progress k old s t a b from mid → Stepped line.Line old new t u → LineRan run.Done (k + 1) (judged (k + 1) new.line) b c mid at → Progress (k + 1) new s u a c from at
-line_done k old new s t u a b c from mid at g step done =
+pub line_done : (wants : Bool) (k : ℕ) (old new : Held) (s t u a b c : Option (List ℕ)) (from mid at : Experiment)
+    → Progress k old s t a b from mid → Stepped line.Line old new t u → LineRan wants run.Done (k + 1) (judged (k + 1) new.line) b c mid at → Progress (k + 1) new s u a c from at
+line_done wants k old new s t u a b c from mid at g step done =
     let ran = done_asks (k + 1) (judged (k + 1) new.line) b c mid at done in
     let n : length (good_requests 1 g.lines) + 1 ≡ k + 1 = omega (arith, length-good 1 g.lines g.good, g.split.count) in
     let requests : good_requests 1 (g.lines ++ new.line ∷ []) ≡ good_requests 1 g.lines ++ ran.0 ∷ [] = (good_behind k g.lines new.line [] ran.0 g.split.count g.good ran.1).good in
@@ -260,15 +260,15 @@ unwritten : (requests : List Request) (a b c : Option (List ℕ)) (from mid at :
 unwritten requests a b c from mid at all n = subst (λ o. AllWritten requests a o from at) (sym n.unwritten) (subst (λ m. AllWritten requests a b from m) (sym n.kept) all)
 
 -- a line ended as its event did
-pub line_of_event : (end : LineRun) (n : ℕ) (text : List ℕ) (request : Request) (a b : Option (List ℕ)) (from at : Experiment) → n ≤ most_lines → reading text ≡ Ok request → LineRan end n (Ok request) a b from at
-    → LineRan end n (judged n text) a b from at
-line_of_event end n text request a b from at few h ran = subst (λ (line : Result Request BadLine). LineRan end n line a b from at) (sym (judged_good n text request few h)) ran
+pub line_of_event : (wants : Bool) (end : LineRun) (n : ℕ) (text : List ℕ) (request : Request) (a b : Option (List ℕ)) (from at : Experiment) → n ≤ most_lines → reading text ≡ Ok request → LineRan wants end n (Ok request) a b from at
+    → LineRan wants end n (judged n text) a b from at
+line_of_event wants end n text request a b from at few h ran = subst (λ (line : Result Request BadLine). LineRan wants end n line a b from at) (sym (judged_good n text request few h)) ran
 
 -- the line that was given is bad
-pub line_bad : (k : ℕ) (old new : Held) (s t u a b c : Option (List ℕ)) (from mid at : Experiment) (f : LineFault)
+pub line_bad : (wants : Bool) (k : ℕ) (old new : Held) (s t u a b c : Option (List ℕ)) (from mid at : Experiment) (f : LineFault)
     → Progress k old s t a b from mid → Stepped line.Line old new t u → (new.ended ≡ true → IsAtEnd u) → length new.bytes ≤ read_size
-    → LineRan (run.Bad f) (k + 1) (judged (k + 1) new.line) b c mid at → AllDone (Some (k + 1, Faulty f)) s u a c from at
-line_bad k old new s t u a b c from mid at f g step at_end near ran =
+    → LineRan wants (run.Bad f) (k + 1) (judged (k + 1) new.line) b c mid at → AllDone (Some (k + 1, Faulty f)) s u a c from at
+line_bad wants k old new s t u a b c from mid at f g step at_end near ran =
     let v = given k old new s t u a b from mid g step at_end near in
     let all : AllDone (Some (k + 1, Faulty f)) s u a b from mid =
     ends_bad k old new s t u a b step.taken (Faulty f) from mid g step.consumed step.goes at_end
@@ -307,10 +307,10 @@ cut_line n before request p a b c mid at count w cut =
     }
 
 -- the transcript line of the line that was given is not whole
-pub line_cut : (k : ℕ) (old new : Held) (s t u a b c : Option (List ℕ)) (from mid at : Experiment)
+pub line_cut : (wants : Bool) (k : ℕ) (old new : Held) (s t u a b c : Option (List ℕ)) (from mid at : Experiment)
     → Progress k old s t a b from mid → Stepped line.Line old new t u → (new.ended ≡ true → IsAtEnd u) → length new.bytes ≤ read_size
     → IsCut (k + 1) (judged (k + 1) new.line) b c mid at → WrittenShort s u a c from at
-line_cut k old new s t u a b c from mid at g step at_end near cut =
+line_cut wants k old new s t u a b c from mid at g step at_end near cut =
     let ran = cut_asks (k + 1) (judged (k + 1) new.line) b c mid at cut in
     let v = given k old new s t u a b from mid g step at_end near in
     let n : length (good_requests 1 g.lines) + 1 ≡ k + 1 = omega (arith, length-good 1 g.lines g.good, g.split.count) in
@@ -334,10 +334,10 @@ get_behind [] line more = refl
 get_behind (other ∷ lines) line more = get_behind lines line more
 
 -- memory ran out before the line that was given, or while its transcript line was written
-pub line_wants : (k : ℕ) (old new : Held) (s t u a b c : Option (List ℕ)) (from mid at : Experiment)
+pub line_wants : (wants : Bool) (k : ℕ) (old new : Held) (s t u a b c : Option (List ℕ)) (from mid at : Experiment)
     → Progress k old s t a b from mid → Stepped line.Line old new t u → (new.ended ≡ true → IsAtEnd u) → length new.bytes ≤ read_size
-    → LineRan run.NoMemory (k + 1) (judged (k + 1) new.line) b c mid at → Wanting s u a c from at
-line_wants k old new s t u a b c from mid at g step at_end near (inl left) =
+    → LineRan wants run.NoMemory (k + 1) (judged (k + 1) new.line) b c mid at → Wanting wants s u a c from at
+line_wants wants k old new s t u a b c from mid at g step at_end near (inl left) =
     let v = given k old new s t u a b from mid g step at_end near in
     let before = good_requests 1 g.lines in
     let rest = lines_from (k + 1) new.bytes v.ended in
@@ -359,13 +359,13 @@ line_wants k old new s t u a b c from mid at g step at_end near (inl left) =
             subst (λ (l : List ℕ). MayRunOut (judged (length before + 1) l)) same (subst (λ (i : ℕ). MayRunOut (judged i new.line)) (sym n) left.0);
       });
     }
-line_wants k old new s t u a b c from mid at g step at_end near (inr cut) =
-    let w : WrittenShort s u a c from at = line_cut k old new s t u a b c from mid at g step at_end near cut in
-    record { taken = w.taken; ended = w.ended; takes = w.takes; done = inr w.done }
+line_wants wants k old new s t u a b c from mid at g step at_end near (inr (may, cut)) =
+    let w : WrittenShort s u a c from at = line_cut wants k old new s t u a b c from mid at g step at_end near cut in
+    record { taken = w.taken; ended = w.ended; takes = w.takes; done = inr (may, w.done) }
 
 -- memory ran out before anything was taken
-pub wants_all : (s a : Option (List ℕ)) (from : Experiment) → Wanting s s a a from from
-wants_all s a from = record {
+pub wants_all : (wants : Bool) (s a : Option (List ℕ)) (from : Experiment) → Wanting wants s s a a from from
+wants_all wants s a from = record {
   taken = [];
   ended = the_end false s;
   takes = record { consumed = Consumes-nil s; end = tells_end false s (λ e. absurd (cc)) };
@@ -401,9 +401,9 @@ pub wants_line : (n : ℕ) (text : List ℕ) → n ≤ most_lines → (reading t
 wants_line n text few some late = let a : nat_lt most_lines n ≡ false = grind (arith, nat_tests) in rw a (wants_read (reading text) some late)
 
 -- an event was done, and its line was put
-pub event_put : (end : LineRun) (n : ℕ) (request : Request) (out out' : Option (List ℕ)) (old new : Experiment) (piece : List ℕ) → PutRan end out out' piece
-    → ((p : Platform) → IsAt p old → piece ≡ transcript_line n request p) → ((p : Platform) → IsAt p old → IsAt (after request p) new) → LineRan end n (Ok request) out out' old new
-event_put run.Done n request out out' old new piece put is at = λ p s. record { written = subst (λ (xs : List ℕ). Appends out out' xs) (is p s) put; at = at p s }
-event_put run.WriteFault n request out out' old new piece put is at = λ p s. record { written = subst (λ (xs : List ℕ). AppendsPart out out' xs) (is p s) put; at = at p s }
-event_put run.NoMemory n request out out' old new piece put is at = inr (λ p s. record { written = subst (λ (xs : List ℕ). AppendsPart out out' xs) (is p s) put; at = at p s })
-event_put (run.Bad fault) n request out out' old new piece put is at = absurd put
+pub event_put : (wants : Bool) (end : LineRun) (n : ℕ) (request : Request) (out out' : Option (List ℕ)) (old new : Experiment) (piece : List ℕ) → PutRan wants end out out' piece
+    → ((p : Platform) → IsAt p old → piece ≡ transcript_line n request p) → ((p : Platform) → IsAt p old → IsAt (after request p) new) → LineRan wants end n (Ok request) out out' old new
+event_put wants run.Done n request out out' old new piece put is at = λ p s. record { written = subst (λ (xs : List ℕ). Appends out out' xs) (is p s) put; at = at p s }
+event_put wants run.WriteFault n request out out' old new piece put is at = λ p s. record { written = subst (λ (xs : List ℕ). AppendsPart out out' xs) (is p s) put; at = at p s }
+event_put wants run.NoMemory n request out out' old new piece put is at = inr (put.0, λ p s. record { written = subst (λ (xs : List ℕ). AppendsPart out out' xs) (is p s) put.1; at = at p s })
+event_put wants (run.Bad fault) n request out out' old new piece put is at = absurd put

@@ -1,5 +1,5 @@
 -- How one line of a script ended.
-use Rattle.std.specs.Prelude.{◌≡◌, ◌≢◌, ◌⊎◌, ℕ, List, [], ◌++◌, Option, Result, Ok, Err}
+use Rattle.std.specs.Prelude.{◌≡◌, ◌≢◌, ◌⊎◌, ℕ, Bool, true, List, [], ◌++◌, Option, Result, Ok, Err}
 use Rattle.std.specs.Io.KnownBytes.{Appends}
 use Rattle.flk_base.specs.Told.{AppendsWhereTold}
 use Rattle.script_text.specs.Grammar.{Request}
@@ -20,12 +20,12 @@ pub record AppendsPart (out out' : Option (List ℕ)) (piece : List ℕ) : Type 
   pub short : missing ≢ []
   pub written : AppendsWhereTold out out' front
 
--- what a put of a piece that has bytes left
-abbrev pub PutRan : LineRun → Option (List ℕ) → Option (List ℕ) → List ℕ → Type 0
-PutRan Done out out' piece = Appends out out' piece
-PutRan WriteFault out out' piece = AppendsPart out out' piece
-PutRan NoMemory out out' piece = AppendsPart out out' piece
-PutRan (Bad fault) out out' piece = ⊥
+-- what a put of a piece that has bytes left; memory runs out only where out may want some
+abbrev pub PutRan : Bool → LineRun → Option (List ℕ) → Option (List ℕ) → List ℕ → Type 0
+PutRan wants Done out out' piece = Appends out out' piece
+PutRan wants WriteFault out out' piece = AppendsPart out out' piece
+PutRan wants NoMemory out out' piece = (wants ≡ true) × AppendsPart out out' piece
+PutRan wants (Bad fault) out out' piece = ⊥
 
 -- from platform p the request of line n was done, and its transcript line is written
 pub record EventDone (n : ℕ) (request : Request) (p : Platform) (out out' : Option (List ℕ)) (new : Experiment) : Type 0 where
@@ -53,13 +53,14 @@ abbrev pub IsCut : ℕ → Result Request BadLine → Option (List ℕ) → Opti
 IsCut n (Ok request) out out' old new = (p : Platform) → IsAt p old → EventCut n request p out out' new
 IsCut n (Err bad) out out' old new = ⊥
 
--- memory ran out: before the line was begun, if it may there, or for its transcript line once it was done
-abbrev pub IsWanting : ℕ → Result Request BadLine → Option (List ℕ) → Option (List ℕ) → Experiment → Experiment → Type 0
-IsWanting n line out out' old new = (MayRunOut line × NotBegun out out' old new) ⊎ IsCut n line out out' old new
+-- memory ran out: before the line was begun, if it may there, or for its transcript line once it was done, where out
+-- may want memory
+abbrev pub IsWanting : Bool → ℕ → Result Request BadLine → Option (List ℕ) → Option (List ℕ) → Experiment → Experiment → Type 0
+IsWanting wants n line out out' old new = (MayRunOut line × NotBegun out out' old new) ⊎ ((wants ≡ true) × IsCut n line out out' old new)
 
 -- how line n ended, of which this was judged
-abbrev pub LineRan : LineRun → ℕ → Result Request BadLine → Option (List ℕ) → Option (List ℕ) → Experiment → Experiment → Type 0
-LineRan Done n line out out' old new = IsDone n line out out' old new
-LineRan (Bad fault) n line out out' old new = (line ≡ Err (Faulty fault)) × NotBegun out out' old new
-LineRan WriteFault n line out out' old new = IsCut n line out out' old new
-LineRan NoMemory n line out out' old new = IsWanting n line out out' old new
+abbrev pub LineRan : Bool → LineRun → ℕ → Result Request BadLine → Option (List ℕ) → Option (List ℕ) → Experiment → Experiment → Type 0
+LineRan wants Done n line out out' old new = IsDone n line out out' old new
+LineRan wants (Bad fault) n line out out' old new = (line ≡ Err (Faulty fault)) × NotBegun out out' old new
+LineRan wants WriteFault n line out out' old new = IsCut n line out out' old new
+LineRan wants NoMemory n line out out' old new = IsWanting wants n line out out' old new

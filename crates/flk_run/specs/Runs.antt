@@ -103,18 +103,18 @@ pub record WrittenShort (source source' out out' : Option (List ℕ)) (old new :
   pub done : CutShort (good_requests 1 (script_lines taken ended)) out out' old new
   pub near : length (behind_lines (length done.before + 1) taken) ≤ read_size
 
--- memory ran out before a line was begun, or while its transcript line was written
-pub record Wanting (source source' out out' : Option (List ℕ)) (old new : Experiment) : Type 0 where
+-- memory ran out before a line was begun, or while its transcript line was written, where out may want memory
+pub record Wanting (wants : Bool) (source source' out out' : Option (List ℕ)) (old new : Experiment) : Type 0 where
   pub taken : List ℕ
   pub ended : Bool
   pub takes : Takes source source' taken ended
   pub done : Paused (script_lines taken ended) out out' old new
-      ⊎ CutShort (good_requests 1 (script_lines taken ended)) out out' old new
+      ⊎ ((wants ≡ true) × CutShort (good_requests 1 (script_lines taken ended)) out out' old new)
 
 -- what a run that ended so took, did and wrote
-abbrev pub Ran : RunEnd → Option (List ℕ) → Option (List ℕ) → Option (List ℕ) → Option (List ℕ) → Experiment → Experiment → Type 0
-Ran Done source source' out out' old new = AllDone None source source' out out' old new
-Ran (Bad n bad) source source' out out' old new = AllDone (Some (n, bad)) source source' out out' old new
-Ran ReadFault source source' out out' old new = ReadShort source source' out out' old new
-Ran WriteFault source source' out out' old new = WrittenShort source source' out out' old new
-Ran NoMemory source source' out out' old new = Wanting source source' out out' old new
+abbrev pub Ran : Bool → RunEnd → Option (List ℕ) → Option (List ℕ) → Option (List ℕ) → Option (List ℕ) → Experiment → Experiment → Type 0
+Ran wants Done source source' out out' old new = AllDone None source source' out out' old new
+Ran wants (Bad n bad) source source' out out' old new = AllDone (Some (n, bad)) source source' out out' old new
+Ran wants ReadFault source source' out out' old new = ReadShort source source' out out' old new
+Ran wants WriteFault source source' out out' old new = WrittenShort source source' out out' old new
+Ran wants NoMemory source source' out out' old new = Wanting wants source source' out out' old new

@@ -52,7 +52,7 @@ pub fn run_script<S: Source, K: Sink>(
     runner: Runner,
 ) -> (Runner, RunEnd)
     // What was taken, done and written, for every platform that the runner's board and disk hold.
-    ensures ran { Ran result.1 (S.left source.old) (S.left source.new) (K.contents out.old) (K.contents out.new) runner result.0 }
+    ensures ran { Ran (K.takes_memory out.old) result.1 (S.left source.old) (S.left source.new) (K.contents out.old) (K.contents out.new) runner result.0 }
     ensures later { S.fault_count source.old ≤ S.fault_count source.new }
     ensures later_out { K.fault_count out.old ≤ K.fault_count out.new }
     ensures read { result.1 ≡ RunEnd.ReadFault → Rose (S.fault_count source.old) (S.fault_count source.new) }
@@ -60,6 +60,7 @@ pub fn run_script<S: Source, K: Sink>(
     // No fault is passed over, or told as another end.
     ensures source_stays { result.1 ≢ RunEnd.ReadFault → S.fault_count source.new ≡ S.fault_count source.old }
     ensures out_stays { result.1 ≢ RunEnd.WriteFault → K.fault_count out.new ≡ K.fault_count out.old }
+    ensures takes { K.takes_memory out.new ≡ K.takes_memory out.old }
 {
     match LineReader::new(alloc) {
         Ok(reader) => run_lines(alloc, reader, source, out, runner),
@@ -76,13 +77,14 @@ fn run_lines<S: Source, K: Sink>(
     runner: Runner,
 ) -> (Runner, RunEnd)
     requires { reader ≡ record { bytes = []; ended = false; line = [] } }
-    ensures ran { Ran result.1 (S.left source.old) (S.left source.new) (K.contents out.old) (K.contents out.new) runner result.0 }
+    ensures ran { Ran (K.takes_memory out.old) result.1 (S.left source.old) (S.left source.new) (K.contents out.old) (K.contents out.new) runner result.0 }
     ensures later { S.fault_count source.old ≤ S.fault_count source.new }
     ensures later_out { K.fault_count out.old ≤ K.fault_count out.new }
     ensures read { result.1 ≡ RunEnd.ReadFault → Rose (S.fault_count source.old) (S.fault_count source.new) }
     ensures write { result.1 ≡ RunEnd.WriteFault → Rose (K.fault_count out.old) (K.fault_count out.new) }
     ensures source_stays { result.1 ≢ RunEnd.ReadFault → S.fault_count source.new ≡ S.fault_count source.old }
     ensures out_stays { result.1 ≢ RunEnd.WriteFault → K.fault_count out.new ≡ K.fault_count out.old }
+    ensures takes { K.takes_memory out.new ≡ K.takes_memory out.old }
 {
     let mut reader = reader;
     let mut runner = runner;
@@ -124,10 +126,11 @@ fn run_line<K: Sink>(
     out: &mut K,
 ) -> (Runner, LineRun)
     requires { number ≤ most_lines }
-    ensures ran { LineRan result.1 number (judged number line.now) (K.contents out.old) (K.contents out.new) runner result.0 }
+    ensures ran { LineRan (K.takes_memory out.old) result.1 number (judged number line.now) (K.contents out.old) (K.contents out.new) runner result.0 }
     ensures later { K.fault_count out.old ≤ K.fault_count out.new }
     ensures cause { result.1 ≡ LineRun.WriteFault → Rose (K.fault_count out.old) (K.fault_count out.new) }
     ensures stays { result.1 ≢ LineRun.WriteFault → K.fault_count out.new ≡ K.fault_count out.old }
+    ensures takes { K.takes_memory out.new ≡ K.takes_memory out.old }
 {
     match read_line(alloc, line) {
         Err(LineFault::NoMemory) => return (runner, LineRun::NoMemory),
@@ -145,10 +148,11 @@ fn run_event<K: Sink>(
     out: &mut K,
 ) -> (Runner, LineRun)
     requires { HasShortName (request_of event.now) }
-    ensures ran { LineRan result.1 number (Ok (request_of event.now)) (K.contents out.old) (K.contents out.new) runner result.0 }
+    ensures ran { LineRan (K.takes_memory out.old) result.1 number (Ok (request_of event.now)) (K.contents out.old) (K.contents out.new) runner result.0 }
     ensures later { K.fault_count out.old ≤ K.fault_count out.new }
     ensures cause { result.1 ≡ LineRun.WriteFault → Rose (K.fault_count out.old) (K.fault_count out.new) }
     ensures stays { result.1 ≢ LineRun.WriteFault → K.fault_count out.new ≡ K.fault_count out.old }
+    ensures takes { K.takes_memory out.new ≡ K.takes_memory out.old }
 {
     let mut answer = Bytes::new(alloc);
     let (runner, end) = runner.step(number, event, &mut answer);
@@ -166,10 +170,11 @@ fn run_event<K: Sink>(
 // Writes an answer that has bytes, by one put.
 fn write<K: Sink>(answer: &Bytes, out: &mut K) -> LineRun
     requires { answer.now.bytes ≢ [] }
-    ensures put { PutRan result (K.contents out.old) (K.contents out.new) answer.now.bytes }
+    ensures put { PutRan (K.takes_memory out.old) result (K.contents out.old) (K.contents out.new) answer.now.bytes }
     ensures later { K.fault_count out.old ≤ K.fault_count out.new }
     ensures cause { result ≡ LineRun.WriteFault → Rose (K.fault_count out.old) (K.fault_count out.new) }
     ensures stays { result ≢ LineRun.WriteFault → K.fault_count out.new ≡ K.fault_count out.old }
+    ensures takes { K.takes_memory out.new ≡ K.takes_memory out.old }
 {
     match out.put(answer.as_slice()) {
         Ok(()) => return LineRun::Done,

@@ -16,6 +16,6 @@ returns-then-is_empty-clause-ran g c p s =
 pub returns-clause-ran : goal.returns-clause-ran
 returns-clause-ran g c =
     let request = request_of c.args.event.now in
-    event_put c.write-end.result c.args.number request _ _ c.args.runner c.step-runner.result.0 c.step-runner.new.answer.bytes c.write-end.ensures.put
+    event_put _ c.write-end.result c.args.number request _ _ c.args.runner c.step-runner.result.0 c.step-runner.new.answer.bytes c.write-end.ensures.put
     (λ p s. c.step-runner.ensures.written c.in-Done.is p s ∙ ap (λ b. b ++ transcript_line c.args.number request p) c.new-answer.ensures)
     (λ p s. c.step-runner.ensures.leaves c.in-Done.is p s)

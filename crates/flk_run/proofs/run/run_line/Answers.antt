@@ -4,7 +4,7 @@ use Rattle.flk_run.proofs.RunLemmas.{line_of_event, not_early, wants_line}
 use Rattle.flk_run.proofs.run.run_line.Goals as goal
 
 pub returns-in-Ok-clause-ran : goal.returns-in-Ok-clause-ran
-returns-in-Ok-clause-ran g c = line_of_event c.run_event.result.1 c.args.number c.args.line.now _ _ _ c.args.runner c.run_event.result.0 c.requires c.in-Ok.ensures.exact c.run_event.ensures.ran
+returns-in-Ok-clause-ran g c = line_of_event _ c.run_event.result.1 c.args.number c.args.line.now _ _ _ c.args.runner c.run_event.result.0 c.requires c.in-Ok.ensures.exact c.run_event.ensures.ran
 
 pub returns-in-Err-NoMemory-clause-ran : goal.returns-in-Err-NoMemory-clause-ran
 returns-in-Err-NoMemory-clause-ran g c =

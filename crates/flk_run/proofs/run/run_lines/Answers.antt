@@ -16,6 +16,7 @@ loop-before-init g c =
       near = omega (arith, ap (λ (h : Held). length h.bytes) empty);
       stays = refl;
       out_stays = refl;
+      takes = refl;
     }
 
 pub returns-in-End-clause-ran : goal.returns-in-End-clause-ran
@@ -40,30 +41,31 @@ returns-in-Failed-clause-ran g c =
 pub returns-in-Bad-clause-ran : goal.returns-in-Bad-clause-ran
 returns-in-Bad-clause-ran g c =
     let t = stepped g.S.Source.left line.Line c.loop-before.reader c.next.new.self c.loop-before.source c.next.new.source c.in-Line.ensures.next c.in-Line.ensures.unread c.in-Line.ensures.held in
-    line_bad c.loop-before.before c.loop-before.reader c.next.new.self _ _ _ _ _ _ c.args.runner c.loop-before.runner c.run_line-next.result.0 c.in-Bad.fault c.loop-before.invariant.far t
+    line_bad (g.K.Sink.takes_memory c.loop-before.out) c.loop-before.before c.loop-before.reader c.next.new.self _ _ _ _ _ _ c.args.runner c.loop-before.runner c.run_line-next.result.0 c.in-Bad.fault c.loop-before.invariant.far t
     (c.in-Line.ensures.end c.loop-before.invariant.end) c.in-Line.ensures.ahead (rw (c.in-Bad.is, c.line.ensures) at c.run_line-next.ensures.ran)
 
 pub returns-in-WriteFault-clause-ran : goal.returns-in-WriteFault-clause-ran
 returns-in-WriteFault-clause-ran g c =
     let t = stepped g.S.Source.left line.Line c.loop-before.reader c.next.new.self c.loop-before.source c.next.new.source c.in-Line.ensures.next c.in-Line.ensures.unread c.in-Line.ensures.held in
-    line_cut c.loop-before.before c.loop-before.reader c.next.new.self _ _ _ _ _ _ c.args.runner c.loop-before.runner c.run_line-next.result.0 c.loop-before.invariant.far t
+    line_cut (g.K.Sink.takes_memory c.loop-before.out) c.loop-before.before c.loop-before.reader c.next.new.self _ _ _ _ _ _ c.args.runner c.loop-before.runner c.run_line-next.result.0 c.loop-before.invariant.far t
     (c.in-Line.ensures.end c.loop-before.invariant.end) c.in-Line.ensures.ahead (rw (c.in-WriteFault.is, c.line.ensures) at c.run_line-next.ensures.ran)
 
 pub returns-in-NoMemory-clause-ran : goal.returns-in-NoMemory-clause-ran
 returns-in-NoMemory-clause-ran g c =
     let t = stepped g.S.Source.left line.Line c.loop-before.reader c.next.new.self c.loop-before.source c.next.new.source c.in-Line.ensures.next c.in-Line.ensures.unread c.in-Line.ensures.held in
-    line_wants c.loop-before.before c.loop-before.reader c.next.new.self _ _ _ _ _ _ c.args.runner c.loop-before.runner c.run_line-next.result.0 c.loop-before.invariant.far t
-    (c.in-Line.ensures.end c.loop-before.invariant.end) c.in-Line.ensures.ahead (rw (c.in-NoMemory.is, c.line.ensures) at c.run_line-next.ensures.ran)
+    line_wants (g.K.Sink.takes_memory c.args.out.now) c.loop-before.before c.loop-before.reader c.next.new.self _ _ _ _ _ _ c.args.runner c.loop-before.runner c.run_line-next.result.0 c.loop-before.invariant.far t
+    (c.in-Line.ensures.end c.loop-before.invariant.end) c.in-Line.ensures.ahead (rw (c.in-NoMemory.is, c.line.ensures, c.loop-before.invariant.takes) at c.run_line-next.ensures.ran)
 
 pub loop-before-preserved : goal.loop-before-preserved
 loop-before-preserved g c =
     let t = stepped g.S.Source.left line.Line c.loop-before.reader c.next.new.self c.loop-before.source c.next.new.source c.in-Line.ensures.next c.in-Line.ensures.unread c.in-Line.ensures.held in
     record {
-      far = line_done c.loop-before.before c.loop-before.reader c.next.new.self _ _ _ _ _ _ c.args.runner c.loop-before.runner c.run_line-next.result.0 c.loop-before.invariant.far t (rw (c.in-Done.is, c.line.ensures) at c.run_line-next.ensures.ran);
+      far = line_done (g.K.Sink.takes_memory c.loop-before.out) c.loop-before.before c.loop-before.reader c.next.new.self _ _ _ _ _ _ c.args.runner c.loop-before.runner c.run_line-next.result.0 c.loop-before.invariant.far t (rw (c.in-Done.is, c.line.ensures) at c.run_line-next.ensures.ran);
       end = c.in-Line.ensures.end c.loop-before.invariant.end;
       near = c.in-Line.ensures.ahead;
       stays = c.in-Line.ensures.stays (λ e. absurd (cc)) ∙ c.loop-before.invariant.stays;
       out_stays = c.run_line-next.ensures.stays (λ e. let d = sym e ∙ c.in-Done.is in absurd (cc)) ∙ c.loop-before.invariant.out_stays;
+      takes = c.run_line-next.ensures.takes ∙ c.loop-before.invariant.takes;
     }
 
 pub returns-in-Some-clause-ran : goal.returns-in-Some-clause-ran

@@ -15,4 +15,5 @@ invariant-loop-before g l =
       near : length l.reader.bytes ≤ read_size;
       stays : g.S.Source.fault_count l.source ≡ g.S.Source.fault_count l.fn.source;
       out_stays : g.K.Sink.fault_count l.out ≡ g.K.Sink.fault_count l.fn.out;
+      takes : g.K.Sink.takes_memory l.out ≡ g.K.Sink.takes_memory l.fn.out;
     }
