@@ -1,7 +1,7 @@
 -- What a line asks for, or the first thing that is wrong with it: the checks in their order.
 use Rattle.std.specs.Prelude.{ℕ, nat_lt, Bool, true, false, List, [], ◌∷◌, length, codes, Result, Ok, Err, if◌then◌else◌}
 use Rattle.std.specs.Option.{ok_or}
-use Rattle.std.specs.List.{list_all}
+use Rattle.std.specs.List.{list_all, list_any}
 use Rattle.std.specs.Str.{bytes_eq}
 use Rattle.flk_base.specs.Checks.{◌>>=◌}
 use Rattle.script_text.specs.Lines.{longest_line, most_lines, words, content}
@@ -140,23 +140,14 @@ IsPlain (GiveAt at) = Unit {0}
 IsPlain (PeekAt at count) = Unit {0}
 IsPlain other = ⊥
 
--- a command on memory that has an expression behind it
-abbrev pub memory_command_takes : List ℕ → Bool
-memory_command_takes word = if bytes_eq word (codes "poke") then true else bytes_eq word (codes "dma")
+-- the commands that have a name or an expression behind them
+abbrev pub taking_commands : List (List ℕ)
+taking_commands = codes "extend" ∷ codes "let" ∷ codes "show" ∷ codes "image" ∷ codes "poke" ∷ codes "dma" ∷ []
 
--- a command that has a name or an expression behind it
-abbrev pub command_takes : List ℕ → Bool
-command_takes word =
-    if bytes_eq word (codes "extend") then true
-    else if bytes_eq word (codes "let") then true
-    else if bytes_eq word (codes "show") then true
-    else if bytes_eq word (codes "image") then true
-    else memory_command_takes word
-
--- words that begin with one
+-- the words begin with one
 abbrev pub words_take : List (List ℕ) → Bool
 words_take [] = false
-words_take (word ∷ others) = command_takes word
+words_take (word ∷ others) = list_any (bytes_eq word) taking_commands
 
 -- memory may be wanting before there is this answer
 abbrev pub MayWant : Result Request LineFault → Type 0

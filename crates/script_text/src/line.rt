@@ -1,11 +1,12 @@
 // What a line asks for.
 ghost use Rattle.std.specs.Prelude.{◌≡◌, ◌≢◌, ◌↔◌, ℕ, true, false, List, IfOk, IfErr, IsOk, Ok, Err};
-ghost use Rattle.std.specs.List.{list_all};
+ghost use Rattle.std.specs.List.{list_all, list_any};
+ghost use Rattle.std.specs.Str.{bytes_eq};
 ghost use Rattle.flk_base.specs.Checks.{Gives};
 ghost use Rattle.script_text.specs.Expressions.{is_name};
 ghost use Rattle.script_text.specs.Lines.{words, content};
 ghost use Rattle.script_text.specs.Grammar.{Request, Nothing, SpellsLine, is_printable};
-ghost use Rattle.script_text.specs.Reading.{IsEarly, IsPlain, MayWant, words_take, command_takes, memory_command_takes, reading, words_in, command_in, extend_in, read_in, let_in, show_in, image_in, memory_command_in, take_in, give_in, poke_in, peek_in, dma_in, number_in, name_in, kind_in, expression_in};
+ghost use Rattle.script_text.specs.Reading.{IsEarly, IsPlain, MayWant, words_take, taking_commands, reading, words_in, command_in, extend_in, read_in, let_in, show_in, image_in, memory_command_in, take_in, give_in, poke_in, peek_in, dma_in, number_in, name_in, kind_in, expression_in};
 ghost use Rattle.script_text.specs.Seen.{request_of, HasShortName};
 
 use crate::expression::{self, Expr, Unread};
@@ -180,7 +181,7 @@ fn read_words(alloc: Global, mut words: Words<'_>) -> Result<Event, LineFault>
 fn read_command(alloc: Global, command: &[u8], words: Words<'_>) -> Result<Event, LineFault>
     ensures exact { Gives LineFault.NoMemory request_of result (command_in command.now words.entry) }
     ensures want { result ≡ Err LineFault.NoMemory → MayWant (command_in command.now words.entry) }
-    ensures takes { result ≡ Err LineFault.NoMemory → command_takes command.now ≡ true }
+    ensures takes { result ≡ Err LineFault.NoMemory → list_any (bytes_eq command.now) taking_commands ≡ true }
 {
     if command == b"extend".as_slice() {
         read_extend(alloc, words)
@@ -200,7 +201,7 @@ fn read_command(alloc: Global, command: &[u8], words: Words<'_>) -> Result<Event
 fn read_memory_command(alloc: Global, command: &[u8], words: Words<'_>) -> Result<Event, LineFault>
     ensures exact { Gives LineFault.NoMemory request_of result (memory_command_in command.now words.entry) }
     ensures want { result ≡ Err LineFault.NoMemory → MayWant (memory_command_in command.now words.entry) }
-    ensures takes { result ≡ Err LineFault.NoMemory → memory_command_takes command.now ≡ true }
+    ensures takes { result ≡ Err LineFault.NoMemory → list_any (bytes_eq command.now) taking_commands ≡ true }
 {
     if command == b"take".as_slice() {
         read_take(words)
