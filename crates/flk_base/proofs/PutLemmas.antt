@@ -4,7 +4,7 @@ use Rattle.std.specs.Prelude.{Option, Some}
 use Rattle.std.proofs.lemmas.List.{take_rest, take-append-drop, drop-drop, take_at, length-take-le, length-drop, take_more, drop_all}
 use Rattle.std.specs.Io.KnownBytes.{Appends}
 use Rattle.std.proofs.KnownBytes.{Appends-trans}
-use Rattle.flk_base.specs.Told.{AppendsFront}
+use Rattle.flk_base.specs.Told.{AppendsPrefix}
 use Rattle.hex.specs.Hex.{encode_with, encode_lower, lower_digits}
 
 -- a front is written, and then n bytes of the rest
@@ -46,5 +46,5 @@ one_more base mid new xs i h p q =
     ∙ ap (λ r. base ++ r) (sym (encode_with-append lower_digits (take i xs) (get_or xs i 0 ∷ [])) ∙ ap encode_lower (sym (take_more xs i 0 h)))
 
 -- a put that appends nothing
-pub nothing_put : (contents new piece : List ℕ) → new ≡ contents → AppendsFront (Some contents) (Some new) piece
-nothing_put contents new piece same = record { front = []; rest = piece; whole = refl; proper = λ some. some; grown = same ∙ sym (append-nil contents) }
+pub nothing_put : (contents new piece : List ℕ) → new ≡ contents → AppendsPrefix (Some contents) (Some new) [] piece
+nothing_put contents new piece same = record { prefix = []; missing = piece; is = refl; proper = λ some. some; grown = same ∙ sym (append-nil contents) }

@@ -1,7 +1,14 @@
 pub mod Buffer
 pub mod Causes
 pub mod Checks
-pub mod Fuses
 pub mod Hexadecimal
 pub mod InMemory
+pub mod PartLaws
+pub mod Parts
+pub mod Plan
+pub mod PlanLaws
+pub mod RunEnds
+pub mod Stop
+pub mod StopLaws
+pub mod Streams
 pub mod Told

@@ -1,5 +1,5 @@
-//! What every crate of the workspace stands on: bytes that can be given room before they come, a source
-//! and a sink that count their faults, hexadecimal text, and the fuse.
+//! What every crate of the workspace stands on: bytes that can be given room before they come, a source and a
+//! sink that count their faults, how a call over them ends, hexadecimal text, the fuse, and plans of commands.
 #![tactic(auto)]
 
 mod buffer;
@@ -7,6 +7,8 @@ mod edge;
 mod fuse;
 mod hexadecimal;
 mod memory;
+mod plans;
+mod run_end;
 mod streams;
 #[cfg(test)]
 mod tests;
@@ -16,4 +18,9 @@ pub use edge::{StdSink, StdSource};
 pub use fuse::{Fuse, PowerLost};
 pub use hexadecimal::{HexFault, print_hex, read_hex};
 pub use memory::{MemSink, MemSource};
+pub use plans::{
+    calls_in_turn, fuses_add_up, one_after_other, parts_in_place, parts_in_turn, plans_alike,
+    plans_keep, prefix_is_longest, stops,
+};
+pub use run_end::RunEnd;
 pub use streams::{Failed, PutFault, Sink, Source};

@@ -1,9 +1,9 @@
 // A source and a sink in memory, which fail the calls that they are told to.
-ghost use Rattle.std.specs.Prelude.{◌≡◌, ◌≢◌, ◌+◌, ◌<◌, ◌≤◌, ◌↔◌, ◌==◌, ℕ, List, [], ◌++◌, Option, Some, true, length, drop, min, Ok, Contains, IsTrue, IsErr, IfOk, OnOk, OnErr};
+ghost use Rattle.std.specs.Prelude.{◌≡◌, ◌+◌, ◌<◌, ◌≤◌, ◌↔◌, ◌==◌, ℕ, List, [], ◌++◌, Option, Some, true, length, drop, min, Ok, Contains, IsTrue, IsErr, IfOk, OnOk, OnErr};
 ghost use Rattle.std.specs.Io.{ReadsAtMost};
 ghost use Rattle.std.specs.Io.KnownBytes.{ReadConsumes, Appends};
-ghost use Rattle.flk_base.specs.Causes.{HasCause, Rose, counted};
-ghost use Rattle.flk_base.specs.Told.{AppendsFront, KeepsWhereTold};
+ghost use Rattle.flk_base.specs.Causes.{HasCause, PutHasCause, counted};
+ghost use Rattle.flk_base.specs.Told.{AppendsPrefix, KeepsWhereTold};
 
 use crate::buffer::NoMemory;
 use crate::streams::{Failed, PutFault, Sink, Source};
@@ -86,7 +86,6 @@ impl Source for MemSource {
         ensures bytes { OnOk result (ReadConsumes (Some self.old.left) (Some self.new.left) result buf.new) }
         ensures kept { OnErr result (KeepsWhereTold (Some self.old.left) (Some self.new.left)) }
         ensures cause { HasCause self.old.faults self.new.faults result }
-        ensures stays { OnOk result (self.new.faults ≡ self.old.faults) }
 
         // Beside what the trait says: which reads fail, how many bytes one gives, and what stands after it.
         ensures failing { IsErr result ↔ Contains self.old.failing self.old.calls }
@@ -169,14 +168,12 @@ impl Sink for MemSink {
 
     ghost fault_count = { λ s. s.faults };
 
-    ghost takes_memory = { λ s. true };
+    ghost may_allocate = { true };
 
     fn put(&mut self, piece: &[u8]) -> Result<(), PutFault>
         ensures ok { OnOk result (Appends (Some self.old.contents) (Some self.new.contents) piece.now) }
-        ensures err { OnErr result (AppendsFront (Some self.old.contents) (Some self.new.contents) piece.now) }
-        ensures later { self.old.faults ≤ self.new.faults }
-        ensures cause { result ≡ Err PutFault.Failed → Rose self.old.faults self.new.faults }
-        ensures stays { result ≢ Err PutFault.Failed → self.new.faults ≡ self.old.faults }
+        ensures err { OnErr result (AppendsPrefix (Some self.old.contents) (Some self.new.contents) [] piece.now) }
+        ensures cause { PutHasCause result true self.old.faults self.new.faults }
 
         // Beside what the trait says: which puts fail, and what stands after each answer.
         ensures failing { (result ≡ Err PutFault.Failed) ↔ Contains self.old.failing self.old.calls }

@@ -1,9 +1,9 @@
 // Where bytes come from, and where they go.
-ghost use Rattle.std.specs.Prelude.{◌≡◌, ◌≢◌, ◌<◌, ◌≤◌, ℕ, Bool, true, List, Option, length, OnOk, OnErr};
+ghost use Rattle.std.specs.Prelude.{◌≡◌, ◌<◌, ℕ, Bool, List, [], Option, length, OnOk, OnErr};
 ghost use Rattle.std.specs.Io.{ReadsAtMost};
 ghost use Rattle.std.specs.Io.KnownBytes.{ReadConsumes, Appends};
-ghost use Rattle.flk_base.specs.Causes.{HasCause, Rose};
-ghost use Rattle.flk_base.specs.Told.{AppendsFront, KeepsWhereTold};
+ghost use Rattle.flk_base.specs.Causes.{HasCause, PutHasCause};
+ghost use Rattle.flk_base.specs.Told.{AppendsPrefix, KeepsWhereTold};
 
 /// A read failed, and took nothing.
 #[derive(Clone, Copy, Debug, PartialEq, Eq)]
@@ -34,9 +34,8 @@ pub trait Source {
         ensures bound { ReadsAtMost result buf.new }
         ensures bytes { OnOk result (ReadConsumes (left self.old) (left self.new) result buf.new) }
         ensures kept { OnErr result (KeepsWhereTold (left self.old) (left self.new)) }
-        ensures cause { HasCause (fault_count self.old) (fault_count self.new) result }
-        // Nothing but a fault counts.
-        ensures stays { OnOk result (fault_count self.new ≡ fault_count self.old) };
+        // A fault is counted, and nothing else is.
+        ensures cause { HasCause (fault_count self.old) (fault_count self.new) result };
 
     /// How many faults there have been.
     fn faults(&self) -> u64
@@ -51,20 +50,15 @@ pub trait Sink {
     /// How many faults there have been, up to 2^64 - 1.
     ghost fault_count: { Self → ℕ };
 
-    /// Whether a put may want memory.
-    ghost takes_memory: { Self → Bool };
+    /// Whether its puts may allocate.
+    ghost may_allocate: { Bool };
 
-    /// Appends the piece. A fault appends a front of it, and not all of a piece that has bytes.
+    /// Appends the piece. A put that is cut short appends a prefix of it, and not all of a piece that has bytes.
     fn put(&mut self, piece: &[u8]) -> Result<(), PutFault>
         ensures ok { OnOk result (Appends (contents self.old) (contents self.new) piece.now) }
-        ensures err { OnErr result (AppendsFront (contents self.old) (contents self.new) piece.now) }
-        ensures later { fault_count self.old ≤ fault_count self.new }
-        ensures cause { result ≡ Err PutFault.Failed → Rose (fault_count self.old) (fault_count self.new) }
-        // Nothing but a fault counts, and want of memory is none.
-        ensures stays { result ≢ Err PutFault.Failed → fault_count self.new ≡ fault_count self.old }
-        // A sink that takes no memory wants none.
-        ensures want { result ≡ Err PutFault.NoMemory → takes_memory self.old ≡ true }
-        ensures takes { takes_memory self.new ≡ takes_memory self.old };
+        ensures err { OnErr result (AppendsPrefix (contents self.old) (contents self.new) [] piece.now) }
+        // A fault is counted, and nothing else is: running out of memory is none, and comes only where a put may allocate.
+        ensures cause { PutHasCause result may_allocate (fault_count self.old) (fault_count self.new) };
 
     /// How many faults there have been.
     fn faults(&self) -> u64

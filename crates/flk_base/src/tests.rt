@@ -1,11 +1,10 @@
 // That each call succeeds where there is memory, and what the sources and the sinks do in mid-stream.
+mod edges;
+
 use crate::{
-    Bytes, Failed, Fuse, HexFault, MemSink, MemSource, PowerLost, PutFault, Sink, Source, StdSink,
-    StdSource, print_hex, read_hex,
+    Bytes, Failed, Fuse, HexFault, MemSink, MemSource, PowerLost, PutFault, Sink, Source,
+    print_hex, read_hex,
 };
-use std::io;
-use std::io::{Read, Write};
-use std::process::Abort;
 use std::test::Fail;
 
 #[test]
@@ -71,76 +70,46 @@ fn other_text_is_refused(rt: HostRuntime) {
     }
 }
 
-// A reader and a writer that moves at most `most` bytes a call, and fails the call of one number, counted
-// from 0.
-#[derive(Drop)]
-struct Halting<T> {
-    inner: T,
-    most: usize,
-    failing: u32,
-    calls: u32,
-}
+// What a read is to answer, and the count of faults after it.
+type ReadRow = (Result<usize, Failed>, u64);
 
-impl<T> Halting<T> {
-    // How many bytes this call may move.
-    fn turn(&mut self) -> io::Result<usize> {
-        let call = self.calls;
-        self.calls = call.saturating_add(1);
-        if call == self.failing {
-            return Err(io::Error::from(io::ErrorKind::Other));
-        }
-        Ok(self.most)
-    }
-}
+// A piece, what its put is to answer, and the count of faults after it.
+type PutRow<'a> = (&'a [u8], Result<(), PutFault>, u64);
 
-impl<T: Read> Read for Halting<T> {
-    fn read(&mut self, buf: &mut [u8]) -> io::Result<usize> {
-        let count = self.turn()?.min(buf.len());
-        self.inner.read(&mut buf[..count])
-    }
-}
-
-impl<T: Write> Write for Halting<T> {
-    fn write(&mut self, buf: &[u8]) -> io::Result<usize> {
-        let count = self.turn()?.min(buf.len());
-        self.inner.write(&buf[..count])
-    }
-
-    fn flush(&mut self) -> io::Result<()> {
-        Ok(())
-    }
-}
-
-// Reads into four bytes once a row, and gives all that was read. A row has the answer, and the count of
-// faults after it.
-fn read_rows<R: Abort + AllocGlobal, S: Source>(
-    rt: &R,
-    source: &mut S,
-    rows: &[(Result<usize, Failed>, u64)],
-) -> Result<Vec<u8>, Fail> {
-    let mut taken = Vec::new(rt.alloc());
+// Whether a read into the buffer for each row answers and counts as it says, and they give these bytes in all.
+fn reads<S: Source>(source: &mut S, buf: &mut [u8], rows: &[ReadRow], bytes: &[u8]) -> bool {
+    let mut left = bytes;
     for (answer, faults) in rows {
-        let mut buf = [0u8; 4];
-        let read = source.read(&mut buf);
-        assert_eq!(rt; read, *answer);
-        assert_eq!(rt; source.faults(), *faults);
+        if buf.is_empty() {
+            return false;
+        }
+        let read = source.read(buf);
+        if read != *answer || source.faults() != *faults {
+            return false;
+        }
         if let Ok(count) = read {
-            taken.extend_from_slice(&buf[..count])?;
+            if !left.starts_with(&buf[..count]) {
+                return false;
+            }
+            left = &left[count..];
         }
     }
-    Ok(taken)
+    left.is_empty()
 }
 
-// Puts a piece a row. A row has the piece, the answer, and the count of faults after it.
-fn put_rows<S: Sink>(rt: &impl Abort, sink: &mut S, rows: &[(&[u8], Result<(), PutFault>, u64)]) {
+// Whether a put for each row answers and counts as it says.
+fn puts<S: Sink>(sink: &mut S, rows: &[PutRow<'_>]) -> bool {
     for (piece, answer, faults) in rows {
-        assert_eq!(rt; sink.put(*piece), *answer, "at {piece:?}");
-        assert_eq!(rt; sink.faults(), *faults, "at {piece:?}");
+        if sink.put(*piece) != *answer || sink.faults() != *faults {
+            return false;
+        }
     }
+    true
 }
 
 #[test]
 fn source_in_memory(rt: HostRuntime) -> Result<(), Fail> {
+    let mut buf = [0u8; 4];
     let mut pieces = MemSource::new(rt.alloc(), b"abcdefg", &[1, 3], 3)?;
     let rows = [
         (Ok(3), 0),
@@ -150,98 +119,24 @@ fn source_in_memory(rt: HostRuntime) -> Result<(), Fail> {
         (Ok(1), 2),
         (Ok(0), 2),
     ];
-    let taken = read_rows(&rt, &mut pieces, &rows)?;
-    assert_eq!(rt; taken.as_slice(), b"abcdefg".as_slice());
+    assert!(rt; reads(&mut pieces, &mut buf, &rows, b"abcdefg"));
 
     let mut whole = MemSource::new(rt.alloc(), b"abcdefg", &[], 9)?;
-    let taken = read_rows(&rt, &mut whole, &[(Ok(4), 0), (Ok(3), 0), (Ok(0), 0)])?;
-    assert_eq!(rt; taken.as_slice(), b"abcdefg".as_slice());
+    let rows = [(Ok(4), 0), (Ok(3), 0), (Ok(0), 0)];
+    assert!(rt; reads(&mut whole, &mut buf, &rows, b"abcdefg"));
     Ok(())
 }
 
 #[test]
 fn sink_in_memory(rt: HostRuntime) -> Result<(), Fail> {
     let mut sink = MemSink::new(rt.alloc(), &[1])?;
-    let rows: [(&[u8], Result<(), PutFault>, u64); 4] = [
+    let rows: [PutRow<'_>; 4] = [
         (b"abc", Ok(()), 0),
         (b"de", Err(PutFault::Failed), 1),
         (b"", Ok(()), 1),
         (b"fg", Ok(()), 1),
     ];
-    put_rows(&rt, &mut sink, &rows);
-    assert_eq!(rt; sink.contents(), b"abcfg".as_slice());
-    Ok(())
-}
-
-#[test]
-fn source_over_a_reader(rt: HostRuntime) -> Result<(), Fail> {
-    let text = b"abcde".as_slice();
-    let mut plain = StdSource::new(text);
-    let taken = read_rows(&rt, &mut plain, &[(Ok(4), 0), (Ok(1), 0), (Ok(0), 0)])?;
-    assert_eq!(rt; taken.as_slice(), text);
-
-    let mut halting = StdSource::new(Halting {
-        inner: text,
-        most: 1,
-        failing: 2,
-        calls: 0,
-    });
-    let rows = [(Ok(1), 0), (Ok(1), 0), (Err(Failed), 1), (Ok(1), 1)];
-    let taken = read_rows(&rt, &mut halting, &rows)?;
-    assert_eq!(rt; taken.as_slice(), b"abc".as_slice());
-    Ok(())
-}
-
-#[test]
-fn sink_over_a_writer(rt: HostRuntime) -> Result<(), Fail> {
-    let mut written = Vec::new(rt.alloc());
-    let rows: [(&[u8], Result<(), PutFault>, u64); 3] = [
-        (b"abc", Ok(()), 0),
-        (b"", Ok(()), 0),
-        (b"de", Ok(()), 0),
-    ];
-    put_rows(&rt, &mut StdSink::new(&mut written), &rows);
-    assert_eq!(rt; written.as_slice(), b"abcde".as_slice());
-    Ok(())
-}
-
-#[test]
-fn sink_over_a_writer_that_halts(rt: HostRuntime) -> Result<(), Fail> {
-    let failed = Err(PutFault::Failed);
-    // The bytes that a call of the writer moves, the call that fails, and what stands after the puts.
-    let cases: [(usize, u32, [(&[u8], Result<(), PutFault>, u64); 3], &[u8]); 3] = [
-        // one byte a call
-        (
-            1,
-            99,
-            [(b"abc", Ok(()), 0), (b"de", Ok(()), 0), (b"f", Ok(()), 0)],
-            b"abcdef",
-        ),
-        // a fault after the first byte of the second piece
-        (
-            1,
-            4,
-            [(b"abc", Ok(()), 0), (b"de", failed, 1), (b"f", Ok(()), 1)],
-            b"abcdf",
-        ),
-        // nothing is taken
-        (
-            0,
-            99,
-            [(b"abc", failed, 1), (b"", Ok(()), 1), (b"f", failed, 2)],
-            b"",
-        ),
-    ];
-    for (most, failing, rows, contents) in cases {
-        let mut written = Vec::new(rt.alloc());
-        let mut sink = StdSink::new(Halting {
-            inner: &mut written,
-            most,
-            failing,
-            calls: 0,
-        });
-        put_rows(&rt, &mut sink, &rows);
-        assert_eq!(rt; written.as_slice(), contents);
-    }
+    assert!(rt; puts(&mut sink, &rows));
+    assert!(rt; sink.contents() == b"abcfg".as_slice());
     Ok(())
 }
