@@ -16,8 +16,7 @@ use Rattle.script_text.specs.Numbers.{number_of}
 use Rattle.script_text.specs.Expressions.{Atom, Literal, Repeated, Named, Suffix, Cut, Flip, Term, is_name, SpellsAtom, SpellsSuffix, SpellsSuffixes, SpellsTerm, SpellsExpression}
 use Rattle.script_text.specs.ExpressionReading.{Reads, both, all_of, opens, parts, repeated_in, atom_in, bounds_in, cut_in, suffix_in, term_of_parts, term_in, expression_of}
 use Rattle.script_text.specs.declared.expression.Unread.{Unread}
-use Rattle.script_text.specs.declared.expression.Unread.TheVariants.{Spelling}
-use Rattle.script_text.proofs.PlainLemmas.{Plain, IsPlain, is_plain, IsNameByte, chosen, has_some, digits_plain, is_name-parts, name_is_plain, number_plain, no_opening, no_plus, no_dot}
+use Rattle.script_text.proofs.PlainLemmas.{Plain, IsPlain, is_plain, IsNameByte, chosen, digits_plain, is_name-parts, name_is_plain, number_plain, no_opening, no_plus, no_dot}
 
 -- ---- what a step that gave a value was given
 
@@ -385,5 +384,5 @@ again (t ∷ next ∷ ts) word h =
 
 -- what is returned is spelled so
 pub found_if : (r : Result (List Term) Unread) (word : List ℕ) → Reads (λ ts. ts) r (expression_of word) → IfOk r (λ ts. SpellsExpression ts word)
-found_if (Ok ts) word h = found word ts (has_some (expression_of word) Spelling ts h)
+found_if (Ok ts) word h = found word ts h
 found_if (Err fault) word h = tt

@@ -1,22 +1,22 @@
 -- What is read without a fault is what the line spells, and the other way round.
 use Rattle.std.proofs.Common.{◌≡◌, ℕ, inl, inr, Bool, true, false, List, [], ◌∷◌, length, refl, sym, ap, subst, ◌∙◌, arith}
-use Rattle.std.specs.Prelude.{Option, Some, None, Result, Ok, Err, IfOk, nat_lt, codes}
-use Rattle.std.specs.Option.{ok_or}
+use Rattle.std.specs.Prelude.{Result, Ok, Err, IfOk, nat_lt, codes}
 use Rattle.std.specs.List.{list_all}
 use Rattle.std.specs.Str.{bytes_eq}
 use Rattle.std.specs.Cmp.Lexicographic.{same_text}
 use Rattle.std.proofs.lemmas.Bool.Decides.{nat_tests}
 use Rattle.std.proofs.lemmas.List.Sums.{AllPass-from_list_all, list_all-from_AllPass}
 use Rattle.flk_base.specs.Checks.{◌>>=◌, Gives}
-use Rattle.script_text.specs.Lines.{longest_line, words, content}
+use Rattle.script_text.specs.Lines.{words, content}
 use Rattle.script_text.specs.Numbers.{number_of}
 use Rattle.script_text.specs.Expressions.{Term, is_name}
 use Rattle.script_text.specs.ExpressionReading.{expression_of}
 use Rattle.script_text.specs.Grammar.{Request, Nothing, ExtendBy, ReadOf, LetBe, ShowOf, ImageOf, TakeOf, GiveAt, PokeAt, PeekAt, DmaAt, ANumber, AName, AKind, AnExpression, kind_word, Spells, is_printable, is_remark, command_word, arguments, SpellAll, SpellsCommand, SpellsWords, SpellsLine}
 use Rattle.script_text.specs.Reading.{number_in, name_in, kind_in, expression_in, one_of, two_of, five_of, extend_in, read_in, let_in, show_in, image_in, take_in, give_in, poke_in, peek_in, dma_in, memory_command_in, command_in, words_in, reading}
-use Rattle.script_text.specs.Seen.{IsShortName, HasShortName}
+use Rattle.script_text.specs.Seen.{line_fault, IsShortName, HasShortName}
 use Rattle.script_text.specs.declared.line.LineFault.{LineFault}
-use Rattle.script_text.specs.declared.line.LineFault.TheVariants.{Number, Expression, NoMemory}
+use Rattle.script_text.specs.declared.line.LineFault.TheVariants.{Number, Expression}
+use Rattle.script_text.specs.declared.line.LineError.{LineError}
 use Rattle.script_text.proofs.ExpressionLemmas as expression
 use Rattle.script_text.proofs.PlainLemmas.{chosen, has_some}
 
@@ -335,7 +335,7 @@ again line request h =
     let short : nat_lt 16384 (length line) ≡ false = grind (arith, nat_tests, h.short) in
     rw (short, list_all-from_AllPass is_printable (content line) h.printable) (words_again request (words (content line)) h.spelled)
 
-pub found_if : {X : Type 0} (view : X → Request) (r : Result X LineFault) (line : List ℕ) → Gives NoMemory view r (reading line) → IfOk r (λ x. SpellsLine (view x) line)
+pub found_if : {X : Type 0} (view : X → Request) (r : Result X LineError) (line : List ℕ) → Gives line_fault view r (reading line) → IfOk r (λ x. SpellsLine (view x) line)
 found_if view (Ok x) line h = found line (view x) h
 found_if view (Err e) line h = tt
 
@@ -378,141 +378,6 @@ words_short (PokeAt at bytes) ws s = tt
 words_short (PeekAt at count) ws s = tt
 words_short (DmaAt at bytes) ws s = tt
 
-pub short_if : {X : Type 0} (view : X → Request) (r : Result X LineFault) (line : List ℕ) → Gives NoMemory view r (reading line) → IfOk r (λ x. HasShortName (view x))
+pub short_if : {X : Type 0} (view : X → Request) (r : Result X LineError) (line : List ℕ) → Gives line_fault view r (reading line) → IfOk r (λ x. HasShortName (view x))
 short_if view (Ok x) line h = words_short (view x) (words (content line)) (found line (view x) h).spelled
 short_if view (Err e) line h = tt
-
--- ---- want of memory
-
--- neither the first check nor the second gives it
-bind_memory : {A B : Type 0} (r : Result A LineFault) (f : A → Result B LineFault) → (r ≡ Err NoMemory → ⊥) → ((x : A) → f x ≡ Err NoMemory → ⊥) → (r >>= f) ≡ Err NoMemory → ⊥
-bind_memory (Ok x) f first second h = second x h
-bind_memory (Err d) f first second h = first (let same : d ≡ NoMemory = cc in ap (λ e. Err e) same)
-
-one_memory : (ws : List (List ℕ)) → one_of ws ≡ Err NoMemory → ⊥
-one_memory [] h = cc
-one_memory (a ∷ []) h = cc
-one_memory (a ∷ b ∷ ws) h = cc
-
-two_memory : (ws : List (List ℕ)) → two_of ws ≡ Err NoMemory → ⊥
-two_memory [] h = cc
-two_memory (a ∷ []) h = cc
-two_memory (a ∷ b ∷ []) h = cc
-two_memory (a ∷ b ∷ c ∷ ws) h = cc
-
-five_memory : (ws : List (List ℕ)) → five_of ws ≡ Err NoMemory → ⊥
-five_memory [] h = cc
-five_memory (a ∷ []) h = cc
-five_memory (a ∷ b ∷ []) h = cc
-five_memory (a ∷ b ∷ c ∷ []) h = cc
-five_memory (a ∷ b ∷ c ∷ d ∷ []) h = cc
-five_memory (a ∷ b ∷ c ∷ d ∷ e ∷ []) h = cc
-five_memory (a ∷ b ∷ c ∷ d ∷ e ∷ f ∷ ws) h = cc
-
-number_memory : (word : List ℕ) → number_in word ≡ Err NoMemory → ⊥
-number_memory word h = at (number_of word) h
-  where
-    at : (o : Option ℕ) → ok_or o Number ≡ Err NoMemory → ⊥
-    at (Some n) h = cc
-    at None h = cc
-
-expression_memory : (word : List ℕ) → expression_in word ≡ Err NoMemory → ⊥
-expression_memory word h = at (expression_of word) h
-  where
-    at : (o : Option (List Term)) → ok_or o Expression ≡ Err NoMemory → ⊥
-    at (Some n) h = cc
-    at None h = cc
-
-name_memory : (word : List ℕ) → name_in word ≡ Err NoMemory → ⊥
-name_memory word h = elim (chosen (is_name word) _ _ _ h) [ inl took ↦ cc | inr other ↦ cc ]
-
-kind_memory : (word : List ℕ) → kind_in word ≡ Err NoMemory → ⊥
-kind_memory word h = elim (chosen (bytes_eq word (codes "pal")) _ _ _ h) [
-  | inl took ↦ cc
-  | inr other ↦ elim (chosen (bytes_eq word (codes "job")) _ _ _ other.1) [ inl took ↦ cc | inr neither ↦ cc ]
-]
-
-extend_memory : (ws : List (List ℕ)) → extend_in ws ≡ Err NoMemory → ⊥
-extend_memory ws = bind_memory (two_of ws) _ (two_memory ws) (λ w. bind_memory (number_in w.0) _ (number_memory w.0) (λ r. bind_memory (expression_in w.1) _ (expression_memory w.1) (λ t h. cc)))
-
-read_memory : (ws : List (List ℕ)) → read_in ws ≡ Err NoMemory → ⊥
-read_memory ws = bind_memory (one_of ws) _ (one_memory ws) (λ w. bind_memory (number_in w) _ (number_memory w) (λ r h. cc))
-
-let_memory : (ws : List (List ℕ)) → let_in ws ≡ Err NoMemory → ⊥
-let_memory ws = bind_memory (two_of ws) _ (two_memory ws) (λ w. bind_memory (name_in w.0) _ (name_memory w.0) (λ n. bind_memory (expression_in w.1) _ (expression_memory w.1) (λ v h. cc)))
-
-show_memory : (ws : List (List ℕ)) → show_in ws ≡ Err NoMemory → ⊥
-show_memory ws = bind_memory (one_of ws) _ (one_memory ws) (λ w. bind_memory (expression_in w) _ (expression_memory w) (λ v h. cc))
-
-image_memory : (ws : List (List ℕ)) → image_in ws ≡ Err NoMemory → ⊥
-image_memory ws =
-    bind_memory (five_of ws) _ (five_memory ws) (λ w. bind_memory (name_in w.0) _ (name_memory w.0) (λ n. bind_memory (kind_in w.1) _ (kind_memory w.1)
-    (λ k. bind_memory (number_in w.2) _ (number_memory w.2) (λ a. bind_memory (number_in w.3) _ (number_memory w.3) (λ b. bind_memory (expression_in w.4) _ (expression_memory w.4) (λ c h. cc))))))
-
-take_memory : (ws : List (List ℕ)) → take_in ws ≡ Err NoMemory → ⊥
-take_memory ws = bind_memory (one_of ws) _ (one_memory ws) (λ w. bind_memory (number_in w) _ (number_memory w) (λ n h. cc))
-
-give_memory : (ws : List (List ℕ)) → give_in ws ≡ Err NoMemory → ⊥
-give_memory ws = bind_memory (one_of ws) _ (one_memory ws) (λ w. bind_memory (number_in w) _ (number_memory w) (λ n h. cc))
-
-poke_memory : (ws : List (List ℕ)) → poke_in ws ≡ Err NoMemory → ⊥
-poke_memory ws = bind_memory (two_of ws) _ (two_memory ws) (λ w. bind_memory (number_in w.0) _ (number_memory w.0) (λ a. bind_memory (expression_in w.1) _ (expression_memory w.1) (λ t h. cc)))
-
-peek_memory : (ws : List (List ℕ)) → peek_in ws ≡ Err NoMemory → ⊥
-peek_memory ws = bind_memory (two_of ws) _ (two_memory ws) (λ w. bind_memory (number_in w.0) _ (number_memory w.0) (λ a. bind_memory (number_in w.1) _ (number_memory w.1) (λ t h. cc)))
-
-dma_memory : (ws : List (List ℕ)) → dma_in ws ≡ Err NoMemory → ⊥
-dma_memory ws = bind_memory (two_of ws) _ (two_memory ws) (λ w. bind_memory (number_in w.0) _ (number_memory w.0) (λ a. bind_memory (expression_in w.1) _ (expression_memory w.1) (λ t h. cc)))
-
-memory_command_memory : (word : List ℕ) (others : List (List ℕ)) → memory_command_in word others ≡ Err NoMemory → ⊥
-memory_command_memory word others h = elim (chosen (bytes_eq word (codes "take")) _ _ _ h) [
-  | inl took ↦ take_memory others took.1
-  | inr a ↦ elim (chosen (bytes_eq word (codes "give")) _ _ _ a.1) [
-    | inl took ↦ give_memory others took.1
-    | inr b ↦ elim (chosen (bytes_eq word (codes "poke")) _ _ _ b.1) [
-      | inl took ↦ poke_memory others took.1
-      | inr c ↦ elim (chosen (bytes_eq word (codes "peek")) _ _ _ c.1) [
-        | inl took ↦ peek_memory others took.1
-        | inr d ↦ elim (chosen (bytes_eq word (codes "dma")) _ _ _ d.1) [
-          | inl took ↦ dma_memory others took.1
-          | inr none ↦ cc
-        ]
-      ]
-    ]
-  ]
-]
-
-command_memory : (word : List ℕ) (others : List (List ℕ)) → command_in word others ≡ Err NoMemory → ⊥
-command_memory word others h = elim (chosen (bytes_eq word (codes "extend")) _ _ _ h) [
-  | inl took ↦ extend_memory others took.1
-  | inr a ↦ elim (chosen (bytes_eq word (codes "read")) _ _ _ a.1) [
-    | inl took ↦ read_memory others took.1
-    | inr b ↦ elim (chosen (bytes_eq word (codes "let")) _ _ _ b.1) [
-      | inl took ↦ let_memory others took.1
-      | inr c ↦ elim (chosen (bytes_eq word (codes "show")) _ _ _ c.1) [
-        | inl took ↦ show_memory others took.1
-        | inr d ↦ elim (chosen (bytes_eq word (codes "image")) _ _ _ d.1) [
-          | inl took ↦ image_memory others took.1
-          | inr none ↦ memory_command_memory word others none.1
-        ]
-      ]
-    ]
-  ]
-]
-
-words_memory : (ws : List (List ℕ)) → words_in ws ≡ Err NoMemory → ⊥
-words_memory [] h = cc
-words_memory (word ∷ others) h = elim (chosen (is_remark (word ∷ others)) _ _ _ h) [
-  | inl took ↦ cc
-  | inr other ↦ command_memory word others other.1
-]
-
--- want of memory is no fault of a line
-pub never_memory : (line : List ℕ) → reading line ≡ Err NoMemory → ⊥
-never_memory line h = elim (chosen (nat_lt longest_line (length line)) _ _ _ h) [
-  | inl took ↦ cc
-  | inr short ↦ elim (chosen (list_all is_printable (content line)) _ _ _ short.1) [
-    | inl took ↦ words_memory (words (content line)) took.1
-    | inr other ↦ cc
-  ]
-]

@@ -1,5 +1,5 @@
 -- What the functions that read an expression answer.
-use Rattle.std.proofs.Common.{◌≡◌, ◌⊎◌, inl, inr, cond, ℕ, Bool, true, false, List, get_or, drop, refl, sym, ap, subst}
+use Rattle.std.proofs.Common.{◌≡◌, cond, ℕ, Bool, true, false, List, get_or, drop, refl, sym, subst}
 use Rattle.std.specs.Prelude.{Option, Some, None, option_map, Result, Ok, Err, nat_eq, codes, is_ok, is_err}
 use Rattle.std.specs.Option.{ok_or}
 use Rattle.std.specs.Result.{result_ok}
@@ -31,17 +31,16 @@ no_literal word text begins same bad =
 
 -- where there is nothing to read, the word is misspelled
 pub told_by : {X Y : Type 0} (view : X → Y) (o : Option X) (read : Option Y) → option_map view o ≡ read → Reads view (ok_or o Spelling) read
-told_by view None read h = inr (rw (sym h) refl)
-told_by view (Some x) read h = rw (sym h) refl
+told_by view None read h = sym h
+told_by view (Some x) read h = sym h
 
 -- a push that did not fail
 pub pushed : {X T E : Type 0} (r : Result T E) (t : Bool) (new xs ys : List X) → t ≡ is_err r → t ≡ false → new ≡ cond (is_ok r) xs ys → new ≡ xs
 pushed (Ok _) t new xs ys e f h = h
 pushed (Err _) t new xs ys e f h = absurd (cc)
 
--- the fault of a part is that of the whole, where the whole is read from the part
-pub part_fault : {X Y : Type 0} (fault : Unread) (part : Option X) (whole : Option Y) → (part ≡ None → whole ≡ None)
-    → (fault ≡ NoMemory) ⊎ (ok_or part Spelling ≡ Err fault) → (fault ≡ NoMemory) ⊎ (ok_or whole Spelling ≡ Err fault)
-part_fault fault part whole needs (inl want) = inl want
-part_fault fault None whole needs (inr bad) = inr (let none : whole ≡ None = needs refl in rw none (let same : Spelling ≡ fault = cc in ap (λ f. Err f) same))
-part_fault fault (Some x) whole needs (inr bad) = cc
+-- why a part is not read is why the whole is not, where the whole is read from the part
+pub part_fault : {A B : Type 0} (error : Unread) (part : Option A) (whole : Option B) → (part ≡ None → whole ≡ None)
+    → Reads (λ (x : A). x) (Err error) part → Reads (λ (x : B). x) (Err error) whole
+part_fault Spelling part whole needs h = needs h
+part_fault NoMemory part whole needs h = tt

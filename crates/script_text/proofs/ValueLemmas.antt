@@ -1,18 +1,18 @@
 -- The value of terms, by the windows that their suffixes leave.
-use Rattle.std.proofs.Common.{◌≡◌, ◌⊎◌, inl, inr, ℕ, ◌+◌, ◌-◌, ◌≤◌, List, [], ◌∷◌, ◌++◌, length, take, drop, cond, Bool, false, refl, sym, ap, subst, ◌∙◌, arith, append_assoc, append-nil, length-append, length-drop}
-use Rattle.std.specs.Prelude.{Option, Some, None, Result, Ok, Err, IsOk, IfOk, OnOk, is_err, nat_le, nat_lt, ◌&&◌}
-use Rattle.std.specs.Option.{ok_or}
-use Rattle.std.specs.FinMap.{get}
-use Rattle.std.proofs.lemmas.Bool.{cases_Bool, cases_cond, leb-true}
+use Rattle.std.proofs.Common.{◌≡◌, inl, inr, ℕ, ◌+◌, ◌-◌, ◌≤◌, List, [], ◌∷◌, ◌++◌, length, take, drop, cond, Bool, false, refl, sym, ap, subst, ◌∙◌, arith, append_assoc, append-nil, length-append, length-drop}
+use Rattle.std.specs.Prelude.{Option, Some, None, IfSome, MatchOption, Result, Ok, Err, IsOk, IfOk, OnOk, is_err, nat_le}
+use Rattle.std.proofs.lemmas.Bool.{cases_Bool, leb-true}
 use Rattle.std.proofs.lemmas.List.{length-take-le}
 use Rattle.flk_base.specs.Checks.{◌>>=◌, GivesFaultFirst}
-use Rattle.script_text.specs.Expressions.{Atom, Literal, Repeated, Named, Suffix, Cut, Flip, Term}
+use Rattle.script_text.specs.Expressions.{Suffix, Term}
+use Rattle.script_text.specs.SeenExpressions.{expr_fault}
 use Rattle.script_text.specs.Variables.{Table}
-use Rattle.script_text.specs.Values.{atom_value, suffixed, all_suffixed, term_value, sum_value, value_of, longest_value}
+use Rattle.script_text.specs.Values.{atom_value, all_suffixed, term_value, sum_value, value_of, longest_value}
 use Rattle.script_text.specs.Windows.{all_narrowed, changed, joined, length_of, sum_length, whole}
 use Rattle.script_text.specs.declared.value.Window.{Window}
 use Rattle.script_text.specs.declared.value.ExprFault.{ExprFault}
-use Rattle.script_text.specs.declared.value.ExprFault.TheVariants.{Name, Long, NoMemory}
+use Rattle.script_text.specs.declared.value.ExprFault.TheVariants.{Long}
+use Rattle.script_text.specs.declared.value.ExprError.{ExprError}
 use Rattle.script_text.proofs.WindowLemmas.{Left, outcome, length-changed}
 
 -- ---- one term
@@ -137,6 +137,12 @@ sum_joined table terms len h =
     let j = joins table [] v.0 terms v.1 in
     v.1 ∙ ap (λ ys. Ok ys) j.2 ∙ sym j.1
 
+-- what an error of what the terms have together says of the value, where there is one
+pub joined_error : (fault : Option ExprFault) (value together : Result (List ℕ) ExprFault) → value ≡ together → IsOk value
+    → IfSome fault (λ f. together ≡ Err f) → MatchOption fault (IsOk value) (λ f. value ≡ Err f)
+joined_error None value together same ok h = ok
+joined_error (Some f) value together same ok h = same ∙ h
+
 -- ---- how long values are
 
 short_step : (table : Table) (sum total : List ℕ) (terms : List Term) (r : Result (List ℕ) ExprFault)
@@ -153,53 +159,6 @@ sum_short table sum total [] low is = let same : sum ≡ total = cc in subst (λ
 sum_short table sum total (term ∷ terms) low is = short_step table sum total terms (term_value table term) (λ ys fits. sum_short table (sum ++ ys) total terms fits) is
 
 -- no value is longer than the longest
-pub short_if : {X : Type 0} (view : X → List ℕ) (r : Result X ExprFault) (terms : List Term) (table : Table) → GivesFaultFirst NoMemory view r (value_of terms table) → IfOk r (λ x. length (view x) ≤ longest_value)
+pub short_if : {X : Type 0} (view : X → List ℕ) (r : Result X ExprError) (terms : List Term) (table : Table) → GivesFaultFirst expr_fault view r (value_of terms table) → IfOk r (λ x. length (view x) ≤ longest_value)
 short_if view (Ok x) terms table h = sum_short table [] (view x) terms (omega arith) h
-short_if view (Err fault) terms table h = tt
-
--- ---- want of memory
-
--- a fault is one of those of the first step, or of the second
-second_fault : (r : Result (List ℕ) ExprFault) (f : List ℕ → Result (List ℕ) ExprFault) (e : ExprFault) → (r >>= f) ≡ Err e → (r ≡ Err e) ⊎ ((x : List ℕ) × (f x ≡ Err e))
-second_fault (Ok x) f e h = inr (x, h)
-second_fault (Err d) f e h = inl h
-
-suffix_memory : (s : Suffix) (xs : List ℕ) → suffixed s xs ≡ Err NoMemory → ⊥
-suffix_memory (Cut a b) xs h = elim (cases_cond (nat_le a b && nat_le b (length xs)) _ _ _ (sym h)) [ inl ok ↦ cc | inr bad ↦ cc ]
-suffix_memory (Flip n) xs h = elim (cases_cond (nat_lt n (length xs)) _ _ _ (sym h)) [ inl ok ↦ cc | inr bad ↦ cc ]
-
-suffixes_memory : (ss : List Suffix) (xs : List ℕ) → all_suffixed ss xs ≡ Err NoMemory → ⊥
-suffixes_memory [] xs h = cc
-suffixes_memory (s ∷ ss) xs h = elim (second_fault (suffixed s xs) (all_suffixed ss) NoMemory h) [
-  | inl first ↦ suffix_memory s xs first
-  | inr rest ↦ suffixes_memory ss rest.0 rest.1
-]
-
-bound_memory : (o : Option (List ℕ)) → ok_or o Name ≡ Err NoMemory → ⊥
-bound_memory (Some x) h = cc
-bound_memory None h = cc
-
-atom_memory : (table : Table) (a : Atom) → atom_value table a ≡ Err NoMemory → ⊥
-atom_memory table (Literal bytes) h = cc
-atom_memory table (Repeated byte count) h = cc
-atom_memory table (Named name) h = bound_memory (get table name) h
-
-term_memory : (table : Table) (term : Term) → term_value table term ≡ Err NoMemory → ⊥
-term_memory table term h = elim (second_fault (atom_value table term.atom) (all_suffixed term.suffixes) NoMemory h) [
-  | inl first ↦ atom_memory table term.atom first
-  | inr rest ↦ suffixes_memory term.suffixes rest.0 rest.1
-]
-
-sum_memory : (table : Table) (sum : List ℕ) (terms : List Term) → sum_value table sum terms ≡ Err NoMemory → ⊥
-sum_memory table sum [] h = cc
-sum_memory table sum (term ∷ terms) h = elim (second_fault (term_value table term) _ NoMemory h) [
-  | inl first ↦ term_memory table term first
-  | inr rest ↦ elim (cases_cond (nat_le (length sum + length rest.0) longest_value) _ _ _ (sym rest.1)) [
-    | inl more ↦ sum_memory table (sum ++ rest.0) terms (sym more)
-    | inr long ↦ cc
-  ]
-]
-
--- want of memory is no fault of an expression
-pub never_memory : (terms : List Term) (table : Table) → value_of terms table ≡ Err NoMemory → ⊥
-never_memory terms table h = sum_memory table [] terms h
+short_if view (Err error) terms table h = tt

@@ -1,10 +1,8 @@
 -- The expression that a word spells, if it spells one: cut at `+`, then before each suffix.
-use Rattle.std.specs.Prelude.{ℕ, ◌-◌, ◌==◌, ◌||◌, nat_eq, Bool, List, [], ◌∷◌, length, take, drop, slice_index, codes, Option, Some, None, option_and_then, option_map, Result, if◌then◌else◌}
-use Rattle.std.specs.Option.{ok_or}
+use Rattle.std.specs.Prelude.{ℕ, ◌-◌, ◌==◌, ◌||◌, nat_eq, Bool, List, [], ◌∷◌, length, take, drop, slice_index, codes, Option, Some, None, option_and_then, option_map, Result, Ok, Err, if◌then◌else◌, ◌≡◌}
 use Rattle.std.specs.Result.{result_ok}
 use Rattle.std.specs.List.{slice_split, onto_first, starts_with}
 use Rattle.hex.specs.Hex.{decode_of}
-use Rattle.flk_base.specs.Checks.{Gives}
 use Rattle.script_text.specs.Numbers.{number_of}
 use Rattle.script_text.specs.Expressions.{Atom, Literal, Repeated, Named, Suffix, Cut, Flip, Term, is_name}
 use Rattle.script_text.specs.declared.expression.Unread.{Unread}
@@ -66,4 +64,6 @@ expression_of word = all_of term_in (slice_split (λ c. c == 43) word)
 
 -- what a reader returned, seen by view, is what there is to read, unless memory ran out
 abbrev pub Reads : {X Y : Type 0} → (X → Y) → Result X Unread → Option Y → Type 0
-Reads view result read = Gives NoMemory view result (ok_or read Spelling)
+Reads view (Ok x) read = read ≡ Some (view x)
+Reads view (Err Spelling) read = read ≡ None
+Reads view (Err NoMemory) read = Unit {0}

@@ -1,7 +1,7 @@
 -- What a reader of lines gives, and what it holds.
 use Rattle.std.specs.Prelude.{◌≡◌, ◌≢◌, ◌⊎◌, ℕ, ◌+◌, ◌≤◌, Bool, true, false, List, [], ◌∷◌, ◌++◌, length, Option}
 use Rattle.std.specs.Io.KnownBytes.{Consumes}
-use Rattle.flk_base.specs.Told.{KeepsWhereTold}
+use Rattle.flk_base.specs.Streams.{TakenUntilFault}
 use Rattle.script_text.specs.Lines.{longest_line, IsOneLine}
 use Rattle.script_text.specs.declared.reader.LineEnd.{LineEnd}
 use Rattle.script_text.specs.declared.reader.LineEnd.TheVariants as line
@@ -47,12 +47,6 @@ abbrev pub AfterAny : AnyEnd → List ℕ → Held → Type 0
 AfterAny any.Some bytes held = (bytes ≢ []) × (held.bytes ≡ bytes) × (held.line ≡ [])
 AfterAny any.End bytes held = (held.ended ≡ true) × (bytes ≡ []) × (held.bytes ≡ []) × (held.line ≡ [])
 AfterAny any.Failed bytes held = (held.ended ≡ false) × (bytes ≡ []) × (held.bytes ≡ []) × (held.line ≡ [])
-
--- these bytes were taken, and then a read failed: it took nothing, but the source may tell no more
-pub record TakenUntilFault (before now : Option (List ℕ)) (taken : List ℕ) : Type 0 where
-  pub left : Option (List ℕ)
-  pub consumed : Consumes before left taken
-  pub kept : KeepsWhereTold left now
 
 -- these bytes were taken
 abbrev pub TakenByNext : LineEnd → Option (List ℕ) → Option (List ℕ) → List ℕ → Type 0

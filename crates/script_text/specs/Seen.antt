@@ -1,8 +1,11 @@
--- What contracts see of an event.
-use Rattle.std.specs.Prelude.{◌≤◌, length, ℕ, List}
+-- What contracts see of an event, and of the error where there is none.
+use Rattle.std.specs.Prelude.{◌≤◌, length, ℕ, List, Option, Some, None}
 use Rattle.script_text.specs.Grammar.{Request, Nothing, ExtendBy, ReadOf, LetBe, ShowOf, ImageOf, TakeOf, GiveAt, PokeAt, PeekAt, DmaAt}
 use Rattle.script_text.specs.declared.line.Event.{Event}
 use Rattle.script_text.specs.declared.line.Event.TheVariants.{Blank, Extend, Read, Let, Show, Image, Take, Give, Poke, Peek, Dma}
+use Rattle.script_text.specs.declared.line.LineError.{LineError}
+use Rattle.script_text.specs.declared.line.LineError.TheVariants.{Fault, NoMemory}
+use Rattle.script_text.specs.declared.line.LineFault.{LineFault}
 
 -- what the event asks for
 abbrev pub request_of : Event → Request
@@ -17,6 +20,11 @@ request_of (Give at) = GiveAt at
 request_of (Poke at bytes) = PokeAt at bytes
 request_of (Peek at len) = PeekAt at len
 request_of (Dma at bytes) = DmaAt at bytes
+
+-- the fault that an error stands for: none where memory ran out
+abbrev pub line_fault : LineError → Option LineFault
+line_fault (Fault fault) = Some fault
+line_fault NoMemory = None
 
 -- 1 to 16 bytes
 pub record IsShortName (name : List ℕ) : Type 0 where

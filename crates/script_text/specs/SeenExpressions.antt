@@ -1,11 +1,14 @@
--- What contracts see of an expression and its parts.
-use Rattle.std.specs.Prelude.{List, map}
+-- What contracts see of an expression and its parts, and of the error where there is no value.
+use Rattle.std.specs.Prelude.{List, map, Option, Some, None}
 use Rattle.script_text.specs.Expressions.{Atom, Literal, Repeated, Named, Suffix, Cut, Flip, Term}
 use Rattle.script_text.specs.declared.expression.ExprAtom.{ExprAtom}
 use Rattle.script_text.specs.declared.expression.ExprAtom.TheVariants as atom
 use Rattle.script_text.specs.declared.expression.ExprSuffix.{ExprSuffix}
 use Rattle.script_text.specs.declared.expression.ExprSuffix.TheVariants as suffix
 use Rattle.script_text.specs.declared.expression.ExprTerm.{ExprTerm}
+use Rattle.script_text.specs.declared.value.ExprError.{ExprError}
+use Rattle.script_text.specs.declared.value.ExprError.TheVariants.{Fault, NoMemory}
+use Rattle.script_text.specs.declared.value.ExprFault.{ExprFault}
 
 abbrev pub seen_atom : ExprAtom → Atom
 seen_atom (atom.Literal bytes) = Literal bytes.bytes
@@ -24,3 +27,8 @@ seen_term term = record { atom = seen_atom term.atom; suffixes = seen_suffixes t
 
 abbrev pub seen_terms : List ExprTerm → List Term
 seen_terms terms = map seen_term terms
+
+-- the fault that an error stands for: none where memory ran out
+abbrev pub expr_fault : ExprError → Option ExprFault
+expr_fault (Fault fault) = Some fault
+expr_fault NoMemory = None

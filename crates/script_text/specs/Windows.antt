@@ -1,11 +1,13 @@
 -- Which bytes of an atom's value remain behind its suffixes, and what is done to them.
-use Rattle.std.specs.Prelude.{◌≡◌, ◌⊎◌, ℕ, ◌+◌, ◌-◌, ◌≤◌, nat_le, nat_lt, ◌&&◌, List, [], ◌∷◌, ◌++◌, length, replicate, slice_index, slice_set, Result, Ok, Err, if◌then◌else◌}
+use Rattle.std.specs.Prelude.{◌≡◌, ℕ, ◌+◌, ◌-◌, ◌≤◌, nat_le, nat_lt, ◌&&◌, List, [], ◌∷◌, ◌++◌, length, replicate, slice_index, slice_set, IfSome, Result, Ok, Err, if◌then◌else◌}
 use Rattle.flk_base.specs.Checks.{◌>>=◌}
 use Rattle.script_text.specs.Expressions.{Suffix, Cut, Flip, Term}
 use Rattle.script_text.specs.Variables.{Table}
+use Rattle.script_text.specs.SeenExpressions.{expr_fault}
 use Rattle.script_text.specs.Values.{flipped, longest_value, term_value}
 use Rattle.script_text.specs.declared.value.ExprFault.{ExprFault}
-use Rattle.script_text.specs.declared.value.ExprFault.TheVariants.{Range, Long, NoMemory}
+use Rattle.script_text.specs.declared.value.ExprFault.TheVariants.{Range, Long}
+use Rattle.script_text.specs.declared.value.ExprError.{ExprError}
 use Rattle.script_text.specs.declared.value.Window.{Window}
 use Rattle.script_text.specs.declared.value.Source.{Source}
 use Rattle.script_text.specs.declared.value.Source.TheVariants as source
@@ -71,6 +73,6 @@ sum_length table before (term ∷ terms) =
     length_of (term_value table term) >>= λ len. if nat_le (before + len) longest_value then sum_length table (before + len) terms else Err Long
 
 -- what a function appended, and what it returned, where this was to be appended
-abbrev pub Appends : Result (Unit {0}) ExprFault → Result (List ℕ) ExprFault → List ℕ → List ℕ → Type 0
+abbrev pub Appends : Result (Unit {0}) ExprError → Result (List ℕ) ExprFault → List ℕ → List ℕ → Type 0
 Appends (Ok _) value old new = (bytes : List ℕ) × (value ≡ Ok bytes) × (new ≡ old ++ bytes)
-Appends (Err fault) value old new = (fault ≡ NoMemory) ⊎ (value ≡ Err fault)
+Appends (Err error) value old new = IfSome (expr_fault error) (λ fault. value ≡ Err fault)

@@ -1,14 +1,14 @@
 // Expressions, and how they are read from a word.
-ghost use Rattle.std.specs.Prelude.{◌≡◌, ◌≢◌, ◌↔◌, ◌≤◌, ℕ, List, length, IfOk, Some, Err};
+ghost use Rattle.std.specs.Prelude.{◌≡◌, ◌↔◌, ◌≤◌, ℕ, List, length, IfOk, Some};
 ghost use Rattle.flk_base.specs.Checks.{GivesFaultFirst};
 ghost use Rattle.script_text.specs.Expressions.{Term, SpellsExpression};
 ghost use Rattle.script_text.specs.ExpressionReading.{Reads, expression_of};
 ghost use Rattle.script_text.specs.Values.{longest_value, value_of};
-ghost use Rattle.script_text.specs.Variables.{Table};
+ghost use Rattle.script_text.specs.SeenExpressions.{expr_fault};
 
 use crate::name::Name;
 use crate::spelling::terms_in;
-use crate::value::{ExprFault, value_of};
+use crate::value::{ExprError, value_of};
 use crate::vars::Vars;
 use flk_base::Bytes;
 use std::alloc::Global;
@@ -73,8 +73,8 @@ pub(crate) enum Unread {
 impl Expr {
     /// The value of the expression, or the first fault from the left. It takes memory for the value alone, and only
     /// where there is one: every fault is found before.
-    pub fn value(&self, alloc: Global, vars: &Vars) -> Result<Bytes, ExprFault>
-        ensures exact { GivesFaultFirst ExprFault.NoMemory (λ made. made.bytes) result (value_of self.now vars.now.table) }
+    pub fn value(&self, alloc: Global, vars: &Vars) -> Result<Bytes, ExprError>
+        ensures exact { GivesFaultFirst expr_fault (λ made. made.bytes) result (value_of self.now vars.now.table) }
         ensures short { IfOk result (λ made. length made.bytes ≤ longest_value) }
     {
         value_of(alloc, self.terms.as_slice(), vars)
@@ -93,12 +93,10 @@ pub(crate) fn expression_in(alloc: Global, word: &[u8]) -> Result<Expr, Unread>
     read(alloc, word)
 }
 
-/// No word spells two expressions, what a word spells is what reading it gives, and want of memory is no fault
-/// of an expression.
+/// No word spells two expressions, and what a word spells is what reading it gives.
 pub fn one_expression()
     ensures one { (word : List ℕ) (a : List Term) (b : List Term) → SpellsExpression a word → SpellsExpression b word → a ≡ b }
     ensures read { (word : List ℕ) (terms : List Term) → SpellsExpression terms word ↔ (expression_of word ≡ Some terms) }
-    ensures memory { (terms : List Term) (table : Table) → value_of terms table ≢ Err ExprFault.NoMemory }
 {}
 
 fn read(alloc: Global, word: &[u8]) -> Result<Expr, Unread>

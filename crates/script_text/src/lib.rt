@@ -18,7 +18,7 @@ mod words;
 
 pub use expression::{Expr, one_expression};
 pub use exprs::Exprs;
-pub use line::{BadLine, Event, LineFault, one_request, read_line};
+pub use line::{BadLine, Event, LineError, LineFault, one_request, read_line};
 pub use reader::{AnyEnd, LineEnd, LineReader};
-pub use value::ExprFault;
+pub use value::{ExprError, ExprFault};
 pub use vars::Vars;

@@ -1,5 +1,5 @@
 // What a line asks for.
-ghost use Rattle.std.specs.Prelude.{◌≡◌, ◌≢◌, ◌↔◌, ℕ, true, false, List, IfOk, IfErr, IsOk, Ok, Err};
+ghost use Rattle.std.specs.Prelude.{◌≡◌, ◌≢◌, ◌↔◌, ℕ, true, false, List, Some, IfOk, IsOk, Ok, Err};
 ghost use Rattle.std.specs.List.{list_all, list_any};
 ghost use Rattle.std.specs.Str.{bytes_eq};
 ghost use Rattle.flk_base.specs.Checks.{Gives};
@@ -7,7 +7,8 @@ ghost use Rattle.script_text.specs.Expressions.{is_name};
 ghost use Rattle.script_text.specs.Lines.{words, content};
 ghost use Rattle.script_text.specs.Grammar.{Request, Nothing, SpellsLine, is_printable};
 ghost use Rattle.script_text.specs.Reading.{IsEarly, IsPlain, MayWant, words_take, taking_commands, reading, words_in, command_in, extend_in, read_in, let_in, show_in, image_in, memory_command_in, take_in, give_in, poke_in, peek_in, dma_in, number_in, name_in, kind_in, expression_in};
-ghost use Rattle.script_text.specs.Seen.{request_of, HasShortName};
+ghost use Rattle.script_text.specs.Seen.{line_fault, request_of, HasShortName};
+ghost use Rattle.script_text.specs.declared.line.LineError.TheVariants.{Fault};
 
 use crate::expression::{self, Expr, Unread};
 use crate::numbers::number_of;
@@ -96,14 +97,29 @@ pub enum LineFault {
     Expression,
     /// 7: a word that has to be a Name is none, or one that has to be `pal` or `job` is neither.
     Name,
-    /// There was no memory for the event.
+}
+
+/// Why no event is read from a line.
+#[derive(Clone, Copy, Debug, PartialEq, Eq)]
+pub enum LineError {
+    /// The line has this fault.
+    Fault(LineFault),
+    /// Memory ran out.
     NoMemory,
+}
+
+impl From<LineFault> for LineError {
+    ghost from_gives = { λ fault error. error ≡ Fault fault };
+
+    fn from(fault: LineFault) -> LineError {
+        LineError::Fault(fault)
+    }
 }
 
 /// Why a line of a script is bad.
 #[derive(Clone, Copy, Debug, PartialEq, Eq)]
 pub enum BadLine {
-    /// The line by itself has this fault, which is never want of memory.
+    /// The line by itself has this fault.
     Faulty(LineFault),
     /// 8: it stands behind 100,000 lines.
     TooMany,
@@ -122,54 +138,52 @@ fn are_printable(text: &[u8]) -> bool
 }
 
 /// What the line, without its LF, asks for, or the first thing that is wrong with it.
-pub fn read_line(alloc: Global, bytes: &[u8]) -> Result<Event, LineFault>
+pub fn read_line(alloc: Global, bytes: &[u8]) -> Result<Event, LineError>
     // What is read is spelled so.
     ensures spelled { IfOk result (λ event. SpellsLine (request_of event) bytes.now) }
     // What is spelled so is read, unless memory runs out.
-    ensures only { (request : Request) → SpellsLine request bytes.now → Gives LineFault.NoMemory request_of result (Ok request) }
+    ensures only { (request : Request) → SpellsLine request bytes.now → Gives line_fault request_of result (Ok request) }
     // Which fault it is: the first in the order of the checks.
-    ensures exact { Gives LineFault.NoMemory request_of result (reading bytes.now) }
-    // What is wrong before any word behind the command is tried is told, also where there is no memory.
-    ensures early { (fault : LineFault) → IsEarly fault → reading bytes.now ≡ Err fault → result ≡ Err fault }
+    ensures exact { Gives line_fault request_of result (reading bytes.now) }
+    // What is wrong before any word behind the command is tried is reported, also where there is no memory.
+    ensures early { (fault : LineFault) → IsEarly fault → reading bytes.now ≡ Err fault → result ≡ Err (LineError.Fault fault) }
     // A line without words and a comment take no memory.
     ensures blank { reading bytes.now ≡ Ok Nothing → result ≡ Ok Event.Blank }
     // Nor does a line whose words behind the command are all numbers.
     ensures plain { (request : Request) → IsPlain request → reading bytes.now ≡ Ok request → IsOk result }
-    // Nor is it wanting for a bad line whose command has neither a name nor an expression behind it.
-    ensures unasked { words_take (words (content bytes.now)) ≡ false → result ≢ Err LineFault.NoMemory }
+    // Nor does memory run out for a bad line whose command has neither a name nor an expression behind it.
+    ensures unasked { words_take (words (content bytes.now)) ≡ false → result ≢ Err LineError.NoMemory }
     // A name that is bound has 1 to 16 bytes.
     ensures name { IfOk result (λ event. HasShortName (request_of event)) }
 {
     first_fault(alloc, bytes)
 }
 
-/// No line spells two requests, what a line spells is what reading it gives, and want of memory is no fault
-/// of a line.
+/// No line spells two requests, and what a line spells is what reading it gives.
 pub fn one_request()
     ensures one { (line : List ℕ) (a : Request) (b : Request) → SpellsLine a line → SpellsLine b line → a ≡ b }
     ensures read { (line : List ℕ) (request : Request) → SpellsLine request line ↔ (reading line ≡ Ok request) }
-    ensures memory { (line : List ℕ) → reading line ≢ Err LineFault.NoMemory }
 {}
 
-fn first_fault(alloc: Global, bytes: &[u8]) -> Result<Event, LineFault>
-    ensures exact { Gives LineFault.NoMemory request_of result (reading bytes.now) }
-    ensures want { result ≡ Err LineFault.NoMemory → MayWant (reading bytes.now) }
-    ensures takes { result ≡ Err LineFault.NoMemory → words_take (words (content bytes.now)) ≡ true }
+fn first_fault(alloc: Global, bytes: &[u8]) -> Result<Event, LineError>
+    ensures exact { Gives line_fault request_of result (reading bytes.now) }
+    ensures want { result ≡ Err LineError.NoMemory → MayWant (reading bytes.now) }
+    ensures takes { result ≡ Err LineError.NoMemory → words_take (words (content bytes.now)) ≡ true }
 {
     if bytes.len() > LONGEST_LINE {
-        return Err(LineFault::LongLine);
+        return Err(LineError::Fault(LineFault::LongLine));
     }
     let content = content(bytes);
     if !are_printable(content) {
-        return Err(LineFault::Byte);
+        return Err(LineError::Fault(LineFault::Byte));
     }
     read_words(alloc, Words::new(content))
 }
 
-fn read_words(alloc: Global, mut words: Words<'_>) -> Result<Event, LineFault>
-    ensures exact { Gives LineFault.NoMemory request_of result (words_in words.entry) }
-    ensures want { result ≡ Err LineFault.NoMemory → MayWant (words_in words.entry) }
-    ensures takes { result ≡ Err LineFault.NoMemory → words_take words.entry ≡ true }
+fn read_words(alloc: Global, mut words: Words<'_>) -> Result<Event, LineError>
+    ensures exact { Gives line_fault request_of result (words_in words.entry) }
+    ensures want { result ≡ Err LineError.NoMemory → MayWant (words_in words.entry) }
+    ensures takes { result ≡ Err LineError.NoMemory → words_take words.entry ≡ true }
 {
     match words.next() {
         None => Ok(Event::Blank),
@@ -178,15 +192,15 @@ fn read_words(alloc: Global, mut words: Words<'_>) -> Result<Event, LineFault>
     }
 }
 
-fn read_command(alloc: Global, command: &[u8], words: Words<'_>) -> Result<Event, LineFault>
-    ensures exact { Gives LineFault.NoMemory request_of result (command_in command.now words.entry) }
-    ensures want { result ≡ Err LineFault.NoMemory → MayWant (command_in command.now words.entry) }
-    ensures takes { result ≡ Err LineFault.NoMemory → list_any (bytes_eq command.now) taking_commands ≡ true }
+fn read_command(alloc: Global, command: &[u8], words: Words<'_>) -> Result<Event, LineError>
+    ensures exact { Gives line_fault request_of result (command_in command.now words.entry) }
+    ensures want { result ≡ Err LineError.NoMemory → MayWant (command_in command.now words.entry) }
+    ensures takes { result ≡ Err LineError.NoMemory → list_any (bytes_eq command.now) taking_commands ≡ true }
 {
     if command == b"extend".as_slice() {
         read_extend(alloc, words)
     } else if command == b"read".as_slice() {
-        read_read(words)
+        Ok(read_read(words)?)
     } else if command == b"let".as_slice() {
         read_let(alloc, words)
     } else if command == b"show".as_slice() {
@@ -198,29 +212,29 @@ fn read_command(alloc: Global, command: &[u8], words: Words<'_>) -> Result<Event
     }
 }
 
-fn read_memory_command(alloc: Global, command: &[u8], words: Words<'_>) -> Result<Event, LineFault>
-    ensures exact { Gives LineFault.NoMemory request_of result (memory_command_in command.now words.entry) }
-    ensures want { result ≡ Err LineFault.NoMemory → MayWant (memory_command_in command.now words.entry) }
-    ensures takes { result ≡ Err LineFault.NoMemory → list_any (bytes_eq command.now) taking_commands ≡ true }
+fn read_memory_command(alloc: Global, command: &[u8], words: Words<'_>) -> Result<Event, LineError>
+    ensures exact { Gives line_fault request_of result (memory_command_in command.now words.entry) }
+    ensures want { result ≡ Err LineError.NoMemory → MayWant (memory_command_in command.now words.entry) }
+    ensures takes { result ≡ Err LineError.NoMemory → list_any (bytes_eq command.now) taking_commands ≡ true }
 {
     if command == b"take".as_slice() {
-        read_take(words)
+        Ok(read_take(words)?)
     } else if command == b"give".as_slice() {
-        read_give(words)
+        Ok(read_give(words)?)
     } else if command == b"poke".as_slice() {
         read_poke(alloc, words)
     } else if command == b"peek".as_slice() {
-        read_peek(words)
+        Ok(read_peek(words)?)
     } else if command == b"dma".as_slice() {
         read_dma(alloc, words)
     } else {
-        Err(LineFault::Command)
+        Err(LineError::Fault(LineFault::Command))
     }
 }
 
-fn read_extend(alloc: Global, words: Words<'_>) -> Result<Event, LineFault>
-    ensures exact { Gives LineFault.NoMemory request_of result (extend_in words.entry) }
-    ensures want { result ≡ Err LineFault.NoMemory → MayWant (extend_in words.entry) }
+fn read_extend(alloc: Global, words: Words<'_>) -> Result<Event, LineError>
+    ensures exact { Gives line_fault request_of result (extend_in words.entry) }
+    ensures want { result ≡ Err LineError.NoMemory → MayWant (extend_in words.entry) }
 {
     let (number, expression) = two(words)?;
     let r = number_in(number)?;
@@ -229,17 +243,16 @@ fn read_extend(alloc: Global, words: Words<'_>) -> Result<Event, LineFault>
 }
 
 fn read_read(words: Words<'_>) -> Result<Event, LineFault>
-    ensures exact { Gives LineFault.NoMemory request_of result (read_in words.entry) }
-    ensures plain { result ≢ Err LineFault.NoMemory }
+    ensures { Gives Some request_of result (read_in words.entry) }
 {
     let number = one(words)?;
     let r = number_in(number)?;
     Ok(Event::Read { r })
 }
 
-fn read_let(alloc: Global, words: Words<'_>) -> Result<Event, LineFault>
-    ensures exact { Gives LineFault.NoMemory request_of result (let_in words.entry) }
-    ensures want { result ≡ Err LineFault.NoMemory → MayWant (let_in words.entry) }
+fn read_let(alloc: Global, words: Words<'_>) -> Result<Event, LineError>
+    ensures exact { Gives line_fault request_of result (let_in words.entry) }
+    ensures want { result ≡ Err LineError.NoMemory → MayWant (let_in words.entry) }
 {
     let (name, expression) = two(words)?;
     let var = name_in(alloc, name)?;
@@ -247,18 +260,18 @@ fn read_let(alloc: Global, words: Words<'_>) -> Result<Event, LineFault>
     Ok(Event::Let { var, value })
 }
 
-fn read_show(alloc: Global, words: Words<'_>) -> Result<Event, LineFault>
-    ensures exact { Gives LineFault.NoMemory request_of result (show_in words.entry) }
-    ensures want { result ≡ Err LineFault.NoMemory → MayWant (show_in words.entry) }
+fn read_show(alloc: Global, words: Words<'_>) -> Result<Event, LineError>
+    ensures exact { Gives line_fault request_of result (show_in words.entry) }
+    ensures want { result ≡ Err LineError.NoMemory → MayWant (show_in words.entry) }
 {
     let expression = one(words)?;
     let value = expression_in(alloc, expression)?;
     Ok(Event::Show { value })
 }
 
-fn read_image(alloc: Global, words: Words<'_>) -> Result<Event, LineFault>
-    ensures exact { Gives LineFault.NoMemory request_of result (image_in words.entry) }
-    ensures want { result ≡ Err LineFault.NoMemory → MayWant (image_in words.entry) }
+fn read_image(alloc: Global, words: Words<'_>) -> Result<Event, LineError>
+    ensures exact { Gives line_fault request_of result (image_in words.entry) }
+    ensures want { result ≡ Err LineError.NoMemory → MayWant (image_in words.entry) }
 {
     let (name, kind, entry, budget, expression) = five(words)?;
     let var = name_in(alloc, name)?;
@@ -276,8 +289,7 @@ fn read_image(alloc: Global, words: Words<'_>) -> Result<Event, LineFault>
 }
 
 fn read_take(words: Words<'_>) -> Result<Event, LineFault>
-    ensures exact { Gives LineFault.NoMemory request_of result (take_in words.entry) }
-    ensures plain { result ≢ Err LineFault.NoMemory }
+    ensures { Gives Some request_of result (take_in words.entry) }
 {
     let number = one(words)?;
     let n = number_in(number)?;
@@ -285,17 +297,16 @@ fn read_take(words: Words<'_>) -> Result<Event, LineFault>
 }
 
 fn read_give(words: Words<'_>) -> Result<Event, LineFault>
-    ensures exact { Gives LineFault.NoMemory request_of result (give_in words.entry) }
-    ensures plain { result ≢ Err LineFault.NoMemory }
+    ensures { Gives Some request_of result (give_in words.entry) }
 {
     let number = one(words)?;
     let at = number_in(number)?;
     Ok(Event::Give { at })
 }
 
-fn read_poke(alloc: Global, words: Words<'_>) -> Result<Event, LineFault>
-    ensures exact { Gives LineFault.NoMemory request_of result (poke_in words.entry) }
-    ensures want { result ≡ Err LineFault.NoMemory → MayWant (poke_in words.entry) }
+fn read_poke(alloc: Global, words: Words<'_>) -> Result<Event, LineError>
+    ensures exact { Gives line_fault request_of result (poke_in words.entry) }
+    ensures want { result ≡ Err LineError.NoMemory → MayWant (poke_in words.entry) }
 {
     let (number, expression) = two(words)?;
     let at = number_in(number)?;
@@ -304,8 +315,7 @@ fn read_poke(alloc: Global, words: Words<'_>) -> Result<Event, LineFault>
 }
 
 fn read_peek(words: Words<'_>) -> Result<Event, LineFault>
-    ensures exact { Gives LineFault.NoMemory request_of result (peek_in words.entry) }
-    ensures plain { result ≢ Err LineFault.NoMemory }
+    ensures { Gives Some request_of result (peek_in words.entry) }
 {
     let (address, count) = two(words)?;
     let at = number_in(address)?;
@@ -313,9 +323,9 @@ fn read_peek(words: Words<'_>) -> Result<Event, LineFault>
     Ok(Event::Peek { at, len })
 }
 
-fn read_dma(alloc: Global, words: Words<'_>) -> Result<Event, LineFault>
-    ensures exact { Gives LineFault.NoMemory request_of result (dma_in words.entry) }
-    ensures want { result ≡ Err LineFault.NoMemory → MayWant (dma_in words.entry) }
+fn read_dma(alloc: Global, words: Words<'_>) -> Result<Event, LineError>
+    ensures exact { Gives line_fault request_of result (dma_in words.entry) }
+    ensures want { result ≡ Err LineError.NoMemory → MayWant (dma_in words.entry) }
 {
     let (number, expression) = two(words)?;
     let at = number_in(number)?;
@@ -324,28 +334,26 @@ fn read_dma(alloc: Global, words: Words<'_>) -> Result<Event, LineFault>
 }
 
 fn number_in(word: &[u8]) -> Result<u32, LineFault>
-    ensures value { result ≡ number_in word.now }
-    ensures fault { IfErr result (λ fault. fault ≡ LineFault.Number) }
+    ensures { result ≡ number_in word.now }
 {
     number_of(word).ok_or(LineFault::Number)
 }
 
-fn name_in(alloc: Global, word: &[u8]) -> Result<Bytes, LineFault>
-    ensures { Gives LineFault.NoMemory (λ name. name.bytes) result (name_in word.now) }
+fn name_in(alloc: Global, word: &[u8]) -> Result<Bytes, LineError>
+    ensures { Gives line_fault (λ name. name.bytes) result (name_in word.now) }
 {
     if !is_name(word) {
-        return Err(LineFault::Name);
+        return Err(LineError::Fault(LineFault::Name));
     }
     let mut name = Bytes::new(alloc);
     match name.push_all(word) {
         Ok(()) => Ok(name),
-        Err(_) => Err(LineFault::NoMemory),
+        Err(_) => Err(LineError::NoMemory),
     }
 }
 
 fn kind_in(word: &[u8]) -> Result<bool, LineFault>
-    ensures value { result ≡ kind_in word.now }
-    ensures fault { IfErr result (λ fault. fault ≡ LineFault.Name) }
+    ensures { result ≡ kind_in word.now }
 {
     if word == b"pal".as_slice() {
         Ok(false)
@@ -356,12 +364,12 @@ fn kind_in(word: &[u8]) -> Result<bool, LineFault>
     }
 }
 
-fn expression_in(alloc: Global, word: &[u8]) -> Result<Expr, LineFault>
-    ensures { Gives LineFault.NoMemory (λ expression. expression) result (expression_in word.now) }
+fn expression_in(alloc: Global, word: &[u8]) -> Result<Expr, LineError>
+    ensures { Gives line_fault (λ expression. expression) result (expression_in word.now) }
 {
     match expression::expression_in(alloc, word) {
         Ok(expression) => Ok(expression),
-        Err(Unread::Spelling) => Err(LineFault::Expression),
-        Err(Unread::NoMemory) => Err(LineFault::NoMemory),
+        Err(Unread::Spelling) => Err(LineError::Fault(LineFault::Expression)),
+        Err(Unread::NoMemory) => Err(LineError::NoMemory),
     }
 }

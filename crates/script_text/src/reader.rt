@@ -230,7 +230,6 @@ impl LineReader {
         ensures err { OnErr result (self.new ≡ record self.old { line = [] }) }
         ensures kept { OnErr result (KeepsWhereTold (S.left source.old) (S.left source.new)) }
         ensures cause { HasCause (S.fault_count source.old) (S.fault_count source.new) result }
-        ensures stays { OnOk result (S.fault_count source.new ≡ S.fault_count source.old) }
     {
         self.line_start = 0;
         self.line_end = 0;
@@ -297,7 +296,6 @@ fn read_behind<S: Source>(source: &mut S, buffer: &mut [u8], end: usize) -> Resu
     ensures bytes { OnOk result (ReadConsumes (S.left source.old) (S.left source.new) result (drop end buffer.new)) }
     ensures kept { OnErr result (KeepsWhereTold (S.left source.old) (S.left source.new)) }
     ensures cause { HasCause (S.fault_count source.old) (S.fault_count source.new) result }
-    ensures stays { OnOk result (S.fault_count source.new ≡ S.fault_count source.old) }
 {
     source.read(&mut buffer[end..end + READ_SIZE])
 }

@@ -1,6 +1,7 @@
 // Lines and what they ask for: each fault once, and two faults in one line, of which the first is told.
 use crate::expression::Expr;
-use crate::line::{Event, read_line};
+use crate::line::{Event, LineError, read_line};
+use crate::value::ExprError;
 use crate::vars::Vars;
 use std::test::Fail;
 
@@ -11,7 +12,8 @@ fn value(rt: &HostRuntime, expression: &Expr) -> Result<String, Fail> {
             let bytes = value.as_slice();
             Ok(format!(in rt.alloc(); "{bytes:?}")?)
         }
-        Err(fault) => Ok(format!(in rt.alloc(); "{fault:?}")?),
+        Err(ExprError::Fault(fault)) => Ok(format!(in rt.alloc(); "{fault:?}")?),
+        Err(ExprError::NoMemory) => Err(Fail::from("out of memory")),
     }
 }
 
@@ -47,7 +49,8 @@ fn told(rt: &HostRuntime, line: &[u8]) -> Result<String, Fail> {
             Ok(format!(in rt.alloc(); "image {name:?} {job} {entry} {budget} {code}")?)
         }
         Ok(event) => told_of_memory(rt, event),
-        Err(fault) => Ok(format!(in rt.alloc(); "{fault:?}")?),
+        Err(LineError::Fault(fault)) => Ok(format!(in rt.alloc(); "{fault:?}")?),
+        Err(LineError::NoMemory) => Err(Fail::from("out of memory")),
     }
 }
 

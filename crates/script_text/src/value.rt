@@ -1,9 +1,10 @@
 // The value of an expression: first its length, then its bytes.
 ghost use Rattle.std.specs.Prelude.{◌≡◌, ◌+◌, ◌-◌, ◌^◌, ◌<◌, ◌≤◌, ◌++◌, length, take, drop, IfOk, OnOk, MatchResult, Ok, Err};
 ghost use Rattle.flk_base.specs.Checks.{GivesFaultFirst};
-ghost use Rattle.script_text.specs.SeenExpressions.{seen_atom, seen_suffix, seen_suffixes, seen_term, seen_terms};
+ghost use Rattle.script_text.specs.SeenExpressions.{expr_fault, seen_atom, seen_suffix, seen_suffixes, seen_term, seen_terms};
 ghost use Rattle.script_text.specs.Values.{atom_value, term_value, value_of};
 ghost use Rattle.script_text.specs.Windows.{Appends, source_bytes, length_of, narrowed, all_narrowed, flipped_at, changed, joined, sum_length, whole, IsWithin};
+ghost use Rattle.script_text.specs.declared.value.ExprError.TheVariants.{Fault};
 
 use crate::expression::{ExprAtom, ExprSuffix, ExprTerm};
 use crate::vars::Vars;
@@ -19,8 +20,23 @@ pub enum ExprFault {
     Range,
     /// 3: a term or the sum so far has more than 65,536 bytes.
     Long,
-    /// There was no memory for the value.
+}
+
+/// Why there are no bytes for an expression.
+#[derive(Clone, Copy, Debug, PartialEq, Eq)]
+pub enum ExprError {
+    /// It has no value, for this fault.
+    Fault(ExprFault),
+    /// Memory ran out.
     NoMemory,
+}
+
+impl From<ExprFault> for ExprError {
+    ghost from_gives = { λ fault error. error ≡ Fault fault };
+
+    fn from(fault: ExprFault) -> ExprError {
+        ExprError::Fault(fault)
+    }
 }
 
 /// The most bytes that a term may have, and the sum of terms.
@@ -44,13 +60,13 @@ enum Source<'a> {
 }
 
 /// The value of terms.
-pub(crate) fn value_of(alloc: Global, terms: &[ExprTerm], vars: &Vars) -> Result<Bytes, ExprFault>
-    ensures { GivesFaultFirst ExprFault.NoMemory (λ made. made.bytes) result (value_of (seen_terms terms.now) vars.now.table) }
+pub(crate) fn value_of(alloc: Global, terms: &[ExprTerm], vars: &Vars) -> Result<Bytes, ExprError>
+    ensures { GivesFaultFirst expr_fault (λ made. made.bytes) result (value_of (seen_terms terms.now) vars.now.table) }
 {
     let len = sum_length(terms, vars)?;
     let mut made = Bytes::new(alloc);
     if made.reserve(len).is_err() {
-        return Err(ExprFault::NoMemory);
+        return Err(ExprError::NoMemory);
     }
     append_terms(terms, vars, &mut made)?;
     Ok(made)
@@ -143,7 +159,7 @@ fn narrowed(window: Window, suffix: &ExprSuffix) -> Result<Window, ExprFault>
 }
 
 // Appends the values of terms, however long.
-fn append_terms(terms: &[ExprTerm], vars: &Vars, made: &mut Bytes) -> Result<(), ExprFault>
+fn append_terms(terms: &[ExprTerm], vars: &Vars, made: &mut Bytes) -> Result<(), ExprError>
     ensures { Appends result (joined vars.now.table (seen_terms terms.now)) made.old.bytes made.new.bytes }
 {
     for term in terms {
@@ -152,14 +168,14 @@ fn append_terms(terms: &[ExprTerm], vars: &Vars, made: &mut Bytes) -> Result<(),
     Ok(())
 }
 
-fn append_term(term: &ExprTerm, vars: &Vars, made: &mut Bytes) -> Result<(), ExprFault>
+fn append_term(term: &ExprTerm, vars: &Vars, made: &mut Bytes) -> Result<(), ExprError>
     ensures { Appends result (term_value vars.now.table (seen_term term.now)) made.old.bytes made.new.bytes }
 {
     let source = source_of(&term.atom, vars)?;
     let suffixes = term.suffixes.as_slice();
     let window = window_of(source_len(&source), suffixes)?;
     if append_window(&source, suffixes, window, made).is_err() {
-        return Err(ExprFault::NoMemory);
+        return Err(ExprError::NoMemory);
     }
     Ok(())
 }

@@ -1,5 +1,5 @@
 // The words of a line.
-ghost use Rattle.std.specs.Prelude.{◌≡◌, ◌≢◌, ◌≤◌, List, [], ◌∷◌, length, not, IfErr, MatchOption, MatchResult, Ok, Err};
+ghost use Rattle.std.specs.Prelude.{◌≡◌, ◌≢◌, ◌≤◌, List, [], ◌∷◌, length, not, MatchOption, MatchResult, Ok, Err};
 ghost use Rattle.std.specs.List.{prefix_len};
 ghost use Rattle.script_text.specs.Lines.{is_blank, words, content};
 ghost use Rattle.script_text.specs.Words.{IsFirstWord};
@@ -97,8 +97,7 @@ fn end(mut words: Words<'_>) -> Result<(), LineFault>
 
 /// The one word that is left.
 pub(crate) fn one<'a>(mut words: Words<'a>) -> Result<&'a [u8], LineFault>
-    ensures words { MatchResult result (λ w. one_of words.entry ≡ Ok (w.now)) (λ fault. one_of words.entry ≡ Err fault) }
-    ensures fault { IfErr result (λ fault. fault ≡ LineFault.Count) }
+    ensures { MatchResult result (λ w. one_of words.entry ≡ Ok (w.now)) (λ fault. one_of words.entry ≡ Err fault) }
 {
     let a = next(&mut words)?;
     end(words)?;
@@ -107,8 +106,7 @@ pub(crate) fn one<'a>(mut words: Words<'a>) -> Result<&'a [u8], LineFault>
 
 /// The two words that are left.
 pub(crate) fn two<'a>(mut words: Words<'a>) -> Result<(&'a [u8], &'a [u8]), LineFault>
-    ensures words { MatchResult result (λ w. two_of words.entry ≡ Ok (w.0.now, w.1.now)) (λ fault. two_of words.entry ≡ Err fault) }
-    ensures fault { IfErr result (λ fault. fault ≡ LineFault.Count) }
+    ensures { MatchResult result (λ w. two_of words.entry ≡ Ok (w.0.now, w.1.now)) (λ fault. two_of words.entry ≡ Err fault) }
 {
     let a = next(&mut words)?;
     let b = next(&mut words)?;
@@ -120,8 +118,7 @@ pub(crate) fn two<'a>(mut words: Words<'a>) -> Result<(&'a [u8], &'a [u8]), Line
 pub(crate) fn five<'a>(
     mut words: Words<'a>,
 ) -> Result<(&'a [u8], &'a [u8], &'a [u8], &'a [u8], &'a [u8]), LineFault>
-    ensures words { MatchResult result (λ w. five_of words.entry ≡ Ok (w.0.now, w.1.now, w.2.now, w.3.now, w.4.now)) (λ fault. five_of words.entry ≡ Err fault) }
-    ensures fault { IfErr result (λ fault. fault ≡ LineFault.Count) }
+    ensures { MatchResult result (λ w. five_of words.entry ≡ Ok (w.0.now, w.1.now, w.2.now, w.3.now, w.4.now)) (λ fault. five_of words.entry ≡ Err fault) }
 {
     let a = next(&mut words)?;
     let b = next(&mut words)?;

@@ -38,3 +38,14 @@ build_checks entry budget code =
 -- the first fault of values, if they have no image
 unfoldable pub build_fault : ℕ → ℕ → List ℕ → Option ImageFault
 build_fault entry budget code = first_failed (build_checks entry budget code)
+
+-- the number of a fault, as docs/IMAGES.md lists them
+abbrev pub fault_number : ImageFault → ℕ
+fault_number Short = 1
+fault_number Length = 2
+fault_number Entry = 3
+fault_number Mark = 4
+fault_number Version = 5
+fault_number Flags = 6
+fault_number Budget = 7
+fault_number Reserved = 8

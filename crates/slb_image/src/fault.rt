@@ -1,4 +1,6 @@
 //! What is wrong with bytes that are no image.
+ghost use Rattle.std.specs.Prelude.{◌≡◌};
+ghost use Rattle.slb_image.specs.Faults.{fault_number};
 
 /// Why bytes are no image, or why values have none. Each fault has the number of its row in docs/IMAGES.md, and
 /// the checks are made in this order.
@@ -20,4 +22,20 @@ pub enum ImageFault {
     Budget = 7,
     /// A reserved byte is not 0.
     Reserved = 8,
+}
+
+/// The number of a fault of images.
+pub fn fault_number(fault: ImageFault) -> u32
+    ensures { result ≡ fault_number fault }
+{
+    match fault {
+        ImageFault::Short => 1,
+        ImageFault::Length => 2,
+        ImageFault::Entry => 3,
+        ImageFault::Mark => 4,
+        ImageFault::Version => 5,
+        ImageFault::Flags => 6,
+        ImageFault::Budget => 7,
+        ImageFault::Reserved => 8,
+    }
 }

@@ -12,6 +12,6 @@ mod tests;
 mod viewing;
 
 pub use building::{BuildError, build};
-pub use fault::ImageFault;
+pub use fault::{ImageFault, fault_number};
 pub use laws::image_law;
 pub use viewing::{ImageView, view};

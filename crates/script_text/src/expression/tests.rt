@@ -1,6 +1,7 @@
 // Expressions and their values: each fault alone, and two in one expression, of which the first is told.
 use crate::expression::expression_in;
 use crate::exprs::Exprs;
+use crate::value::ExprError;
 use crate::vars::Vars;
 use flk_base::Bytes;
 use std::test::Fail;
@@ -31,7 +32,8 @@ fn told(rt: &HostRuntime, vars: &Vars, word: &str) -> Result<String, Fail> {
     match expression_in(rt.alloc(), word.as_bytes()) {
         Ok(expression) => match expression.value(rt.alloc(), vars) {
             Ok(value) => Ok(hex::encode(rt.alloc(), value.as_slice())?),
-            Err(fault) => Ok(format!(in rt.alloc(); "{fault:?}")?),
+            Err(ExprError::Fault(fault)) => Ok(format!(in rt.alloc(); "{fault:?}")?),
+            Err(ExprError::NoMemory) => Err(Fail::from("out of memory")),
         },
         Err(fault) => Ok(format!(in rt.alloc(); "{fault:?}")?),
     }
@@ -145,7 +147,8 @@ fn length_told(rt: &HostRuntime, word: &str) -> Result<String, Fail> {
     match expression_in(rt.alloc(), word.as_bytes()) {
         Ok(expression) => match expression.value(rt.alloc(), &vars) {
             Ok(value) => Ok(format!(in rt.alloc(); "{}", value.as_slice().len())?),
-            Err(fault) => Ok(format!(in rt.alloc(); "{fault:?}")?),
+            Err(ExprError::Fault(fault)) => Ok(format!(in rt.alloc(); "{fault:?}")?),
+            Err(ExprError::NoMemory) => Err(Fail::from("out of memory")),
         },
         Err(fault) => Ok(format!(in rt.alloc(); "{fault:?}")?),
     }

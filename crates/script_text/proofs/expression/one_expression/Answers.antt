@@ -1,6 +1,5 @@
 use Rattle.std.proofs.Common.{sym, ◌∙◌}
 use Rattle.script_text.proofs.ExpressionLemmas.{found, again}
-use Rattle.script_text.proofs.ValueLemmas.{never_memory}
 use Rattle.script_text.proofs.expression.one_expression.Goals as goal
 
 pub returns-clause-one : goal.returns-clause-one
@@ -8,6 +7,3 @@ returns-clause-one c word a b spells_a spells_b = let same = sym (again a word s
 
 pub returns-clause-read : goal.returns-clause-read
 returns-clause-read c word terms = (again terms word, found word terms)
-
-pub returns-clause-memory : goal.returns-clause-memory
-returns-clause-memory c terms table = never_memory terms table

@@ -1,12 +1,9 @@
 use Rattle.std.proofs.Common.{sym, ◌∙◌}
-use Rattle.script_text.proofs.ReadingLemmas.{found, again, never_memory}
+use Rattle.script_text.proofs.ReadingLemmas.{found, again}
 use Rattle.script_text.proofs.line.one_request.Goals as goal
 
 pub returns-clause-read : goal.returns-clause-read
 returns-clause-read c line request = (again line request, found line request)
-
-pub returns-clause-memory : goal.returns-clause-memory
-returns-clause-memory c line = never_memory line
 
 pub returns-clause-one : goal.returns-clause-one
 returns-clause-one c line a b one other = let e = sym (again line a one) ∙ again line b other in cc

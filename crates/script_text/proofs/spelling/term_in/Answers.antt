@@ -1,7 +1,6 @@
 use Rattle.std.proofs.Common.{refl, ◌∙◌}
 use Rattle.std.proofs.lemmas.Result.{err_from_is_err_and}
 use Rattle.script_text.proofs.PieceLemmas.{term_parts}
-use Rattle.script_text.proofs.PlainLemmas.{has_some}
 use Rattle.script_text.proofs.SpellingLemmas.{part_fault}
 use Rattle.script_text.proofs.spelling.term_in.Goals as goal
 
@@ -15,12 +14,12 @@ pub returns-in_err-suffixes : goal.returns-in_err-suffixes
 returns-in_err-suffixes c =
     let p = err_from_is_err_and c.from_residual-in_err-suffixes.result c.from_residual-in_err-suffixes.ensures.1 in
     let whole = term_parts c.args.text.now _ _ c.before_suffix.result c.before_suffix.ensures.value c.split_at.ensures.front c.split_at.ensures.back in
-    let atom = has_some _ _ _ c.in_ok-atom.ensures in
+    let atom = c.in_ok-atom.ensures in
     rw (p.1, p.2) (part_fault _ _ _ (λ none. whole ∙ rw (atom, none) refl) c.in_err-suffixes.ensures)
 
 pub returns : goal.returns
 returns c =
-    let atom = has_some _ _ _ c.in_ok-atom.ensures in
-    let suffixes = has_some _ _ _ c.in_ok-suffixes.ensures in
+    let atom = c.in_ok-atom.ensures in
+    let suffixes = c.in_ok-suffixes.ensures in
     let whole = term_parts c.args.text.now _ _ c.before_suffix.result c.before_suffix.ensures.value c.split_at.ensures.front c.split_at.ensures.back in
     rw (whole, atom, suffixes) refl

@@ -1,4 +1,4 @@
-use Rattle.std.proofs.Common.{inr, sym, ap, ◌∙◌, arith}
+use Rattle.std.proofs.Common.{sym, ap, ◌∙◌, arith}
 use Rattle.std.specs.Prelude.{Ok}
 use Rattle.std.proofs.lemmas.Result.{err_from_is_err_and}
 use Rattle.script_text.specs.SeenExpressions.{seen_suffixes, seen_term}
@@ -12,7 +12,7 @@ returns-in_err-window c =
     let p = err_from_is_err_and c.from_residual-in_err-window.result c.from_residual-in_err-window.ensures.1 in
     let found = ap (λ ss. all_narrowed (seen_suffixes ss) (whole c.source_len.result)) (sym c.as_slice-suffixes.ensures.value) ∙ sym c.in_err-window.ensures.value in
     let fault = term_fault c.args.vars.now.table (seen_term c.args.term.now) _ c.source_len.result _ c.in_ok-source.ensures c.source_len.ensures found in
-    rw (p.1, p.2) (inr fault)
+    rw (p.1, p.2) fault
 
 pub append_window-requires-clause-suffixes : goal.append_window-requires-clause-suffixes
 append_window-requires-clause-suffixes c =
