@@ -1,0 +1,28 @@
+-- Lists of registers, of which one is set.
+use Rattle.std.proofs.Common.{◌≡◌, ℕ, ◌<◌, List, [], length, get_or, refl, ◌∙◌, ap}
+use Rattle.std.specs.Prelude.{Option, Some, None, slice_get, slice_set}
+use Rattle.std.proofs.lemmas.List.{set-set, get_or-set_same, length-set}
+use Rattle.tpm_state.specs.Chain.{extended, register_count}
+use Rattle.seal_device.specs.Rules.{Device, Rules}
+use Rattle.seal_device.specs.Commands.{Command, Measure, Extend, ReadRegister, PowerOn, act, extend, launch_register, launch_start}
+
+-- a register that is set, and extended then
+pub extended_anew : (values : List (List ℕ)) (r : ℕ) (start text : List ℕ) → r < length values →
+    slice_set (slice_set values r start) r (extended (get_or (slice_set values r start) r []) text)
+    ≡ slice_set values r (extended start text)
+extended_anew values r start text there =
+    ap (λ value. slice_set (slice_set values r start) r (extended value text))
+    (get_or-set_same values r start [] there)
+    ∙ set-set values r start (extended start text)
+
+-- a command leaves as many registers as there were
+pub count_kept : {H : Type 0} (R : Rules H) (c : Command) (d : Device H) →
+    length d.chains ≡ register_count → length (act R c d).0.chains ≡ register_count
+count_kept R (Measure image) d count =
+    length-set d.chains launch_register (R.extended (R.start launch_start) image) ∙ count
+count_kept {H} R (Extend r text) d count = by_chain (slice_get d.chains r) where
+  by_chain : (o : Option H) → length (extend R r text d o).0.chains ≡ register_count
+  by_chain None = count
+  by_chain (Some chain) = length-set d.chains r (R.extended chain text) ∙ count
+count_kept R (ReadRegister r) d count = count
+count_kept R PowerOn d count = refl

@@ -1,0 +1,8 @@
+use Rattle.seal_device.proofs.Plans.{clean_plan, clean_digested}
+use Rattle.seal_device.proofs.laws.clean_runs_agree.Goals as goal
+
+pub returns-clause-fair : goal.returns-clause-fair
+returns-clause-fair g c = λ plan before clean. clean_plan plan before clean
+
+pub returns-clause-agrees : goal.returns-clause-agrees
+returns-clause-agrees g c = λ plan fuse clean. clean_digested plan fuse clean

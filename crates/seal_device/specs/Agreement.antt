@@ -1,0 +1,57 @@
+-- When a device of lists and one of digests agree.
+use Rattle.std.specs.Prelude.{◌≡◌, false, List, [], ℕ, ◌++◌, map, All, Contains}
+use Rattle.tpm_state.specs.Chain.{Chain, From, ◌▷◌, value}
+use Rattle.flk_base.specs.Plan.{Plan, Throughout, GivesOnly}
+use Rattle.flk_base.specs.Stop.{Fused, with_fuse}
+use Rattle.seal_device.specs.Commands.{Command, Reply, compares}
+use Rattle.seal_device.specs.Digests.{DigestDevice, digests}
+use Rattle.seal_device.specs.Ledger.{Ledger, strings_to_extend, noted, Fair}
+use Rattle.seal_device.specs.Lists.{ListDevice}
+
+-- the device of digests that a device of lists stands for
+abbrev pub digested : ListDevice → DigestDevice
+digested d = record { chains = map value d.chains }
+
+-- a device of lists by digests, beside the reply to a command
+abbrev pub reply_digested : {X : Type 0} → ListDevice × X → DigestDevice × X
+reply_digested end = (digested end.0, end.1)
+
+-- a device of lists by digests, with its fuse
+abbrev pub fused_digested : Fused ListDevice → Fused DigestDevice
+fused_digested before = with_fuse (digested before.state) before.fuse
+
+-- where a plan ended on a device of lists, by digests
+abbrev pub end_digested : {X : Type 0} → Fused ListDevice × X → Fused DigestDevice × X
+end_digested end = (fused_digested end.0, end.1)
+
+-- the strings that were hashed for a chain
+abbrev pub strings : Chain → List (List ℕ)
+strings (From start) = []
+strings (chain ▷ text) = strings chain ++ strings_to_extend (value chain) text
+
+-- a device of lists knows a string: it was hashed for one of its chains
+abbrev pub Knows : ListDevice → List ℕ → Type 0
+Knows d text = (chain : Chain) × Contains d.chains chain × Contains (strings chain) text
+
+-- the ledger has what a device of lists knows: the strings of each of its chains
+pub record Noted (d : ListDevice) (ledger : Ledger) : Type 0 where
+  pub chains : All (λ chain. All (Contains ledger.hashed) (strings chain)) d.chains
+
+-- a device of lists stands for one of digests, and they have one ledger, with all that the first knows
+pub record Agrees (w : ListDevice × Ledger) (v : DigestDevice × Ledger) : Type 0 where
+  pub device : digested w.0 ≡ v.0
+  pub ledger : w.1 ≡ v.1
+  pub known : Noted w.0 w.1
+
+-- the two agree so, and as much is left of their fuses
+pub record FusedAgree (a : Fused (ListDevice × Ledger)) (b : Fused (DigestDevice × Ledger)) : Type 0 where
+  pub state : Agrees a.state b.state
+  pub fuse : a.fuse ≡ b.fuse
+
+-- a plan is fair from here on: each command that it gives is fair where it is given
+abbrev pub FairPlan : {X : Type 0} → Plan Command Reply X → DigestDevice × Ledger → Type 0
+FairPlan plan v = Throughout (noted digests) (Fair digests) plan v
+
+-- no command of the plan compares
+abbrev pub ComparesNothing : {X : Type 0} → Plan Command Reply X → Type 0
+ComparesNothing plan = GivesOnly (λ c. compares c ≡ false) plan

@@ -1,0 +1,3 @@
+-- why a register is neither extended nor read
+pub data Refusal : Type 0 where
+  NoRegister : Refusal
