@@ -1,0 +1,3 @@
+mod AssemblyLemmas
+mod HexLemmas
+mod InputLemmas

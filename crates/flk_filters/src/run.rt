@@ -1,0 +1,69 @@
+// Runs a filter.
+ghost use Rattle.flk_base.specs.Streams.{intake, output};
+ghost use Rattle.flk_base.specs.RunEnds.{HasCauses, WriteHasCause};
+ghost use Rattle.flk_filters.specs.Inputs.{FilterRan};
+ghost use Rattle.flk_filters.specs.Seen.{GivesText, TextWritten};
+
+use crate::asm::assembled;
+use crate::dis::listed;
+use crate::fault::{BadInput, FilterFault};
+use crate::filter::Filter;
+use crate::input::{read_buffer, read_input, room_for_input};
+use crate::measure::measured;
+use flk_base::{Bytes, RunEnd, Sink, Source};
+use std::alloc::Global;
+
+/// Reads the whole input, and writes what the filter makes of it by one put. Of an input that is not of its form nothing is
+/// written. All memory that reading takes is taken before the first read.
+pub fn run_filter<S: Source, K: Sink>(
+    alloc: Global,
+    filter: Filter,
+    source: &mut S,
+    out: &mut K,
+) -> RunEnd<BadInput>
+    // What was taken and written.
+    ensures ran { FilterRan filter result (intake S.Source source.old source.new) (output K.Sink out.old out.new) }
+    // No fault is passed over, or reported as another end.
+    ensures caused { HasCauses result (intake S.Source source.old source.new) (output K.Sink out.old out.new) }
+{
+    let Ok(mut buffer) = read_buffer(alloc) else {
+        return RunEnd::NoMemory;
+    };
+    let Ok(mut input) = room_for_input(alloc) else {
+        return RunEnd::NoMemory;
+    };
+    match read_input(&mut input, &mut buffer, source) {
+        Ok(()) => {}
+        Err(_) => return RunEnd::ReadFault,
+    }
+    match text_of(alloc, filter, input.as_slice()) {
+        Ok(text) => write(text.as_slice(), out),
+        Err(FilterFault::Bad(bad)) => RunEnd::Bad(bad),
+        Err(FilterFault::NoMemory) => RunEnd::NoMemory,
+    }
+}
+
+// What a filter makes of an input.
+fn text_of(alloc: Global, filter: Filter, input: &[u8]) -> Result<Bytes, FilterFault>
+    ensures { GivesText filter input.now result }
+{
+    match filter {
+        Filter::Asm => assembled(alloc, input),
+        Filter::Dis => listed(alloc, input),
+        Filter::Measure => measured(alloc, input),
+    }
+}
+
+// Writes a text by one put, and one without bytes by none.
+fn write<K: Sink>(text: &[u8], out: &mut K) -> RunEnd<BadInput>
+    ensures written { TextWritten result (K.contents out.old) (K.contents out.new) text.now }
+    ensures caused { WriteHasCause result (output K.Sink out.old out.new) }
+{
+    if text.is_empty() {
+        return RunEnd::Done;
+    }
+    match out.put(text) {
+        Ok(()) => RunEnd::Done,
+        Err(fault) => RunEnd::Cut(fault),
+    }
+}
