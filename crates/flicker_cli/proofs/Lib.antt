@@ -1,4 +1,2 @@
-mod InputLemmas
-mod MessageLemmas
-mod TextLemmas
-pub mod TopLemmas
+pub mod CallLemmas
+pub mod MessageLemmas

@@ -3,7 +3,7 @@ use Rattle.std.specs.Prelude.{ℕ, List, [], ◌∷◌, Option, Some, None, code
 use Rattle.std.specs.Str.{bytes_eq}
 use Rattle.flicker_cli.specs.declared.words.Command.{Command}
 use Rattle.flicker_cli.specs.declared.words.Command.TheVariants.{Run, Filter}
-use Rattle.flicker_cli.specs.declared.words.Filter.TheVariants.{Asm, Dis, Measure}
+use Rattle.flk_filters.specs.declared.filter.Filter.TheVariants.{Asm, Dis, Measure}
 
 -- the command of a word
 abbrev pub word_command : List ℕ → Option Command

@@ -1,7 +1,6 @@
-pub mod Answered
+pub mod Calls
 pub mod Commands
-pub mod Filters
-pub mod Inputs
 pub mod Messages
-pub mod Telling
-pub mod Text
+pub mod Room
+pub mod Starts
+pub mod Texts

@@ -1,15 +1,18 @@
--- What is told on err, and with which status, for each way that a command can end.
+-- What is put on err, and with which status, for each way that a call can end.
 use Rattle.std.specs.Prelude.{ℕ, List, [], ◌++◌, codes, decimal}
+use Rattle.flk_base.specs.declared.run_end.RunEnd.{RunEnd}
+use Rattle.flk_base.specs.declared.run_end.RunEnd.TheVariants.{Done, Bad, ReadFault, Cut, NoMemory}
+use Rattle.flk_base.specs.declared.streams.PutFault.TheVariants as put
 use Rattle.script_text.specs.declared.line.BadLine.{BadLine}
 use Rattle.script_text.specs.declared.line.BadLine.TheVariants.{TooMany, Faulty}
 use Rattle.script_text.specs.declared.line.LineFault.TheVariants as line
 use Rattle.pal_asm.specs.declared.fault.AsmKind.{AsmKind}
 use Rattle.pal_asm.specs.declared.fault.AsmKind.TheVariants as asm
-use Rattle.flk_run.specs.Answers.{fault_number}
-use Rattle.flicker_cli.specs.declared.outcome.BadInput.{BadInput}
-use Rattle.flicker_cli.specs.declared.outcome.BadInput.TheVariants as input
-use Rattle.flicker_cli.specs.declared.outcome.Outcome.{Outcome}
-use Rattle.flicker_cli.specs.declared.outcome.Outcome.TheVariants.{Done, BadLine as BadLineAt, BadInput as BadInputOf, ReadFault, WriteFault, NoMemory}
+use Rattle.slb_image.specs.Faults.{fault_number}
+use Rattle.flk_filters.specs.declared.fault.BadInput.{BadInput}
+use Rattle.flk_filters.specs.declared.fault.BadInput.TheVariants as input
+use Rattle.flicker_cli.specs.declared.fault.Fault.{Fault}
+use Rattle.flicker_cli.specs.declared.fault.Fault.TheVariants.{Words, Script, Input}
 
 -- why a line of a script is bad, in words
 abbrev pub bad_text : BadLine → List ℕ
@@ -20,7 +23,6 @@ bad_text (Faulty line.Count) = codes "word count"
 bad_text (Faulty line.Number) = codes "bad number"
 bad_text (Faulty line.Expression) = codes "bad expression"
 bad_text (Faulty line.Name) = codes "bad name"
-bad_text (Faulty line.NoMemory) = codes "no memory"
 bad_text TooMany = codes "too many lines"
 
 -- why a line of an assembler text is bad, in words
@@ -43,24 +45,31 @@ input_message input.Hex = codes "flicker: bad hex\n"
 input_message (input.Assembly fault) = line_message fault.line (asm_text fault.kind)
 input_message (input.NotImage fault) = codes "flicker: not an image: " ++ decimal (fault_number fault) ++ codes "\n"
 
--- the message where the words are in no row of the table of commands
-abbrev pub usage_message : List ℕ
-usage_message = codes "flicker: usage: flicker run, asm, dis, measure, verify or gen N SEED\n"
+-- the message on what is not of its form; where the words are, it says what they may be
+abbrev pub fault_message : Fault → List ℕ
+fault_message Words = codes "flicker: usage: flicker run, asm, dis, measure, verify or gen N SEED\n"
+fault_message (Script first) = line_message first.line (bad_text first.bad)
+fault_message (Input bad) = input_message bad
 
 -- the one message that is tried on err
-abbrev pub outcome_message : Outcome → List ℕ
-outcome_message Done = []
-outcome_message (BadLineAt n bad) = line_message n (bad_text bad)
-outcome_message (BadInputOf bad) = input_message bad
-outcome_message ReadFault = codes "flicker: read fault\n"
-outcome_message WriteFault = codes "flicker: write fault\n"
-outcome_message NoMemory = codes "flicker: no memory\n"
+abbrev pub message_of : RunEnd Fault → List ℕ
+message_of Done = []
+message_of (Bad fault) = fault_message fault
+message_of ReadFault = codes "flicker: read fault\n"
+message_of (Cut put.Failed) = codes "flicker: write fault\n"
+message_of (Cut put.NoMemory) = codes "flicker: no memory\n"
+message_of NoMemory = codes "flicker: no memory\n"
+
+-- the status of what is not of its form
+abbrev pub fault_status : Fault → ℕ
+fault_status Words = 2
+fault_status other = 1
 
 -- the status where that message is written
-abbrev pub outcome_status : Outcome → ℕ
-outcome_status Done = 0
-outcome_status (BadLineAt n bad) = 1
-outcome_status (BadInputOf bad) = 1
-outcome_status ReadFault = 3
-outcome_status WriteFault = 4
-outcome_status NoMemory = 5
+abbrev pub status_of : RunEnd Fault → ℕ
+status_of Done = 0
+status_of (Bad fault) = fault_status fault
+status_of ReadFault = 3
+status_of (Cut put.Failed) = 4
+status_of (Cut put.NoMemory) = 5
+status_of NoMemory = 5

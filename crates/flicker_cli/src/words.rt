@@ -2,24 +2,15 @@
 ghost use Rattle.std.specs.Prelude.{◌≡◌, map, string_bytes};
 ghost use Rattle.flicker_cli.specs.Commands.{command, word_command};
 
+use flk_filters::Filter;
+
 /// What a call is to do.
 #[derive(Clone, Copy, Debug, PartialEq, Eq)]
 pub enum Command {
     /// To run the script on its source, line by line.
     Run,
-    /// To read its whole source, and write what it makes of it.
+    /// To read its whole source, and write what this filter makes of it.
     Filter(Filter),
-}
-
-/// A command that reads its whole source.
-#[derive(Clone, Copy, Debug, PartialEq, Eq)]
-pub enum Filter {
-    /// From an assembler text to its code in hexadecimal.
-    Asm,
-    /// From code in hexadecimal to its listing.
-    Dis,
-    /// From an image in hexadecimal to its digest, and to what register 17 shows after its launch.
-    Measure,
 }
 
 // The command of a word.

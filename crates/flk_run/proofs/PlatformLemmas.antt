@@ -1,6 +1,6 @@
 -- What an extend does to the values of chains.
-use Rattle.std.proofs.Common.{◌≡◌, inl, inr, ℕ, ◌<◌, ◌≤◌, true, false, List, [], ◌++◌, length, map, refl, sym, ap, subst, ◌∙◌, arith}
-use Rattle.std.specs.Prelude.{◌⊎◌, ◌∷◌, ◌==◌, slice_index_or, slice_set, nat_lt, Option, Some, None, Result, Ok, Err, IsOk, ◌↔◌}
+use Rattle.std.proofs.Common.{◌≡◌, ℕ, ◌<◌, ◌≤◌, true, false, List, [], ◌++◌, length, map, refl, sym, ap, subst, ◌∙◌, arith}
+use Rattle.std.specs.Prelude.{◌∷◌, ◌==◌, slice_index_or, slice_set, nat_lt, Option, Some, None, Result, Ok, Err, IsOk, ◌↔◌}
 use Rattle.slb_image.specs.declared.fault.ImageFault.{ImageFault}
 use Rattle.std.proofs.lemmas.List.{map-set, get_or-map, length-set}
 use Rattle.std.proofs.lemmas.Bool.Decides.{nat_tests}
@@ -13,9 +13,11 @@ use Rattle.flk_run.specs.Platform.{Platform}
 use Rattle.script_text.specs.Grammar.{Request}
 use Rattle.script_text.specs.Expressions.{Term}
 use Rattle.script_text.specs.Values.{longest_value, value_of}
-use Rattle.script_text.specs.declared.value.ExprFault.TheVariants.{NoMemory}
-use Rattle.script_text.proofs.ValueLemmas.{never_memory}
+use Rattle.script_text.specs.SeenExpressions.{expr_fault}
+use Rattle.script_text.specs.declared.value.ExprError.{ExprError}
+use Rattle.script_text.specs.declared.value.ExprError.TheVariants.{Fault, NoMemory}
 use Rattle.script_text.specs.declared.value.ExprFault.{ExprFault}
+use Rattle.flk_base.specs.Checks.{GivesFaultFirst}
 use Rattle.flk_run.specs.Answers.{Done, line_of}
 use Rattle.flk_run.specs.Tasks.{Task, Rest, Refuse, Extend, Read, Bind, Show, BindImage, Take, Give, Poke, Peek, Dma, TakesMemory, given, imaged, peeked, task_of}
 use Rattle.flk_run.specs.Events.{host_front, extended_by_host, done, step}
@@ -127,7 +129,7 @@ takes_taken (Poke at bytes) h = tt
 takes_taken (Peek at count) h = tt
 takes_taken (Dma at bytes) h = tt
 
--- an expression for which memory was wanting has a value
-pub has_value : (fault : ExprFault) (terms : List Term) (table : Table) → fault ≡ NoMemory → ((fault ≡ NoMemory) × IsOk (value_of terms table)) ⊎ (value_of terms table ≡ Err fault) → IsOk (value_of terms table)
-has_value fault terms table want (inl found) = found.1
-has_value fault terms table want (inr bad) = absurd (never_memory terms table (bad ∙ ap (λ (f : ExprFault). Err f) want))
+-- an expression for whose value memory ran out has one
+pub has_value : (error : ExprError) (terms : List Term) (table : Table) → error ≡ NoMemory → GivesFaultFirst expr_fault (λ (xs : List ℕ). xs) (Err error) (value_of terms table) → IsOk (value_of terms table)
+has_value NoMemory terms table want h = h
+has_value (Fault fault) terms table want h = absurd (cc)

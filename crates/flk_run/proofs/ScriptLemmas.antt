@@ -50,7 +50,7 @@ length-good n (x ∷ xs) h = count_step n xs (judged n x) h (λ later. length-go
 
 -- what good lines, then a bad one, ask for
 pub record BadBehind (k : ℕ) (lines : List (List ℕ)) (line : List ℕ) (more : List (List ℕ)) (bad : BadLine) : Type 0 where
-  pub first : first_bad 1 (lines ++ line ∷ more) ≡ Some (k + 1, bad)
+  pub first : first_bad 1 (lines ++ line ∷ more) ≡ Some (record { line = k + 1; bad = bad })
   pub good : good_requests 1 (lines ++ line ∷ more) ≡ good_requests 1 lines
 
 pub bad_behind : (k : ℕ) (lines : List (List ℕ)) (line : List ℕ) (more : List (List ℕ)) (bad : BadLine) → length lines ≡ k → first_bad 1 lines ≡ None → judged (k + 1) line ≡ Err bad

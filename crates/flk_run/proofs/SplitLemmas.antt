@@ -1,20 +1,18 @@
 -- The bytes taken so far: the lines given, and what is held.
 use Rattle.std.proofs.Common.{◌≡◌, ◌⊎◌, inl, inr, ℕ, zero, suc, ◌+◌, ◌<◌, ◌≤◌, Bool, true, false, not, cond, List, [], ◌∷◌, ◌++◌, length, refl, sym, ap, subst, ◌∙◌, append_assoc, append-nil, length-append, arith}
 use Rattle.std.specs.Prelude.{Option, Some, None}
-use Rattle.std.specs.Io.KnownBytes.{Consumes, IsAtEnd}
-use Rattle.std.proofs.KnownBytes.{Consumes-nil, Consumes-trans}
+use Rattle.std.proofs.KnownBytes.{Consumes-nil}
 use Rattle.std.proofs.lemmas.Bool.{not-true}
 use Rattle.std.proofs.lemmas.Bool.Decides.{nat_tests}
 use Rattle.std.proofs.lemmas.List.Elements.{All-head, All-tail}
 use Rattle.flk_base.specs.Told.{KeepsWhereTold}
 use Rattle.script_text.specs.Lines.{longest_line, most_lines, is_line_end, IsOneLine, behind_lines, script_lines, lines_from, counts}
-use Rattle.script_text.specs.Reader.{Held, WantsMore, GivesFirst, AfterNext, AfterAny, TakenByNext, TakenByAny, TakenUntilFault, Next, Any, NextOfHeld, AnyOfHeld}
+use Rattle.script_text.specs.Reader.{Held, WantsMore, GivesFirst, AfterNext, AfterAny, TakenByNext, TakenByAny, Next, Any, NextOfHeld, AnyOfHeld}
 use Rattle.script_text.specs.declared.reader.LineEnd.{LineEnd}
 use Rattle.script_text.specs.declared.reader.LineEnd.TheVariants as line
 use Rattle.script_text.specs.declared.reader.AnyEnd.{AnyEnd}
 use Rattle.script_text.specs.declared.reader.AnyEnd.TheVariants as any
 use Rattle.script_text.proofs.LineLemmas.{lines_from-cons, lines_from-one, lines_from-last}
-use Rattle.flk_run.specs.Runs.{TellsEnd}
 
 -- ---- behind lines
 
@@ -175,36 +173,6 @@ split_line k lines taken old new before now split s = record {
 pub split_all : (k : ℕ) (lines : List (List ℕ)) (taken more : List ℕ) (held : Held) (ended : Bool) → Split k lines taken held → Goes held more ended
     → (script_lines (taken ++ more) ended ≡ lines ++ lines_from k (held.bytes ++ more) ended) × (behind_lines k (taken ++ more) ≡ held.bytes ++ more)
 split_all k lines taken more held ended split goes = (split.lines_of more ended goes, split.behind more ended goes)
-
--- ---- the end
-
--- whether nothing is left, as far as it is told
-abbrev pub told_end : Option (List ℕ) → Bool
-told_end None = false
-told_end (Some []) = true
-told_end (Some (c ∷ cs)) = false
-
--- the end was seen, or is told
-abbrev pub the_end : Bool → Option (List ℕ) → Bool
-the_end seen left = cond seen true (told_end left)
-
-pub tells_end : (seen : Bool) (left : Option (List ℕ)) → (seen ≡ true → IsAtEnd left) → TellsEnd (the_end seen left) left
-tells_end seen None h = tt
-tells_end true (Some rest) h = (λ e. h refl, λ e. refl)
-tells_end false (Some []) h = (λ e. refl, λ e. refl)
-tells_end false (Some (c ∷ cs)) h = (λ e. absurd (cc), λ e. absurd (cc))
-
-pub seen_end : (seen : Bool) (left : Option (List ℕ)) → seen ≡ true → the_end seen left ≡ true
-seen_end seen left e = rw e refl
-
--- the end itself
-pub tells_all : (left : Option (List ℕ)) → IsAtEnd left → TellsEnd true left
-tells_all None h = tt
-tells_all (Some rest) h = (λ e. h, λ e. refl)
-
--- bytes taken, and then more until a read failed
-pub told_then : (a b c : Option (List ℕ)) (xs ys : List ℕ) → Consumes a b xs → TakenUntilFault b c ys → TakenUntilFault a c (xs ++ ys)
-told_then a b c xs ys h k = record { left = k.left; consumed = Consumes-trans a b k.left xs ys h k.consumed; kept = k.kept }
 
 -- nothing that is held makes a line yet
 pub open_rest : (k : ℕ) (held : Held) → k < most_lines → WantsMore held → lines_from k held.bytes false ≡ []

@@ -3,8 +3,7 @@ use Rattle.std.specs.Prelude.{ℕ, List, [], ◌++◌, codes, decimal}
 use Rattle.hex.specs.Hex.{encode_lower}
 use Rattle.script_text.specs.declared.value.ExprFault.{ExprFault}
 use Rattle.script_text.specs.declared.value.ExprFault.TheVariants as expr
-use Rattle.slb_image.specs.declared.fault.ImageFault.{ImageFault}
-use Rattle.slb_image.specs.declared.fault.ImageFault.TheVariants as image
+use Rattle.slb_image.specs.Faults.{fault_number}
 use Rattle.flk_run.specs.declared.answers.Refusal.{Refusal}
 use Rattle.flk_run.specs.declared.answers.Refusal.TheVariants.{NoRegister, NoValue, NoImage, NoRoom, NoSpan, NoTaken, NoLong, NoBlocked}
 
@@ -16,23 +15,11 @@ pub data Answer : Type 0 where
   Shows : (bytes : List ℕ) → Answer
   Refused : (why : Refusal) → Answer
 
--- what is wrong with an expression, in words; want of memory is none of it
+-- what is wrong with an expression, in words
 abbrev pub fault_text : ExprFault → List ℕ
 fault_text expr.Name = codes "no name"
 fault_text expr.Range = codes "no range"
 fault_text expr.Long = codes "no long"
-fault_text expr.NoMemory = codes "no memory"
-
--- the number of a fault of images, as docs/IMAGES.md lists them
-abbrev pub fault_number : ImageFault → ℕ
-fault_number image.Short = 1
-fault_number image.Length = 2
-fault_number image.Entry = 3
-fault_number image.Mark = 4
-fault_number image.Version = 5
-fault_number image.Flags = 6
-fault_number image.Budget = 7
-fault_number image.Reserved = 8
 
 -- a refusal in words
 abbrev pub refusal_text : Refusal → List ℕ

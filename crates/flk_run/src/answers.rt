@@ -1,12 +1,12 @@
 // The answers to events, as lines of the transcript.
 ghost use Rattle.std.specs.Prelude.{◌≡◌, ◌+◌, ◌*◌, ◌≤◌, ◌++◌, length, codes, decimal};
 ghost use Rattle.hex.specs.Hex.{encode_lower};
-ghost use Rattle.flk_run.specs.Answers.{fault_text, fault_number, numbered, line_of, Done, Counts, Shows, Refused};
+ghost use Rattle.flk_run.specs.Answers.{fault_text, numbered, line_of, Done, Counts, Shows, Refused};
 
 use flk_base::{Bytes, print_hex};
 use itoa::Buffer;
 use script_text::ExprFault;
-use slb_image::ImageFault;
+use slb_image::{ImageFault, fault_number};
 
 /// Why an event was not done.
 #[derive(Clone, Copy, Debug, PartialEq, Eq)]
@@ -91,23 +91,6 @@ fn fault_text(fault: ExprFault) -> &'static [u8]
         ExprFault::Name => b"no name",
         ExprFault::Range => b"no range",
         ExprFault::Long => b"no long",
-        ExprFault::NoMemory => b"no memory",
-    }
-}
-
-/// The number of a fault of images.
-pub fn fault_number(fault: ImageFault) -> u32
-    ensures { result ≡ fault_number fault }
-{
-    match fault {
-        ImageFault::Short => 1,
-        ImageFault::Length => 2,
-        ImageFault::Entry => 3,
-        ImageFault::Mark => 4,
-        ImageFault::Version => 5,
-        ImageFault::Flags => 6,
-        ImageFault::Budget => 7,
-        ImageFault::Reserved => 8,
     }
 }
 

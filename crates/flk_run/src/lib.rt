@@ -12,8 +12,8 @@ mod tasks;
 #[cfg(test)]
 mod tests;
 
-pub use answers::{Refusal, fault_number};
+pub use answers::Refusal;
 pub use board::{Board, SimDisk};
-pub use run::{RunEnd, run_script};
+pub use run::{ScriptFault, run_script};
 pub use runner::{Runner, StepEnd};
 pub use spans::Spans;

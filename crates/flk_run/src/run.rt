@@ -1,46 +1,28 @@
 // Runs a script, line by line.
-ghost use Rattle.std.specs.Prelude.{◌≡◌, ◌≢◌, ◌≤◌, [], false};
-ghost use Rattle.flk_base.specs.Causes.{Rose};
+ghost use Rattle.std.specs.Prelude.{◌≡◌, ℕ, ◌≤◌, ◌+◌, List, [], false};
+ghost use Rattle.flk_base.specs.Streams.{intake, output};
+ghost use Rattle.flk_base.specs.RunEnds.{HasCauses, WriteHasCause};
 ghost use Rattle.script_text.specs.Lines.{most_lines};
 ghost use Rattle.script_text.specs.Reading.{judged};
 ghost use Rattle.script_text.specs.Seen.{request_of, HasShortName};
 ghost use Rattle.flk_run.specs.Runs.{Ran};
-ghost use Rattle.flk_run.specs.LineRuns.{LineRan, PutRan};
+ghost use Rattle.flk_run.specs.LineRuns.{LineRan};
 
 use crate::runner::{Runner, StepEnd};
-use flk_base::{Bytes, PutFault, Sink, Source};
-use script_text::{AnyEnd, BadLine, Event, LineEnd, LineFault, LineReader, read_line};
+use flk_base::{Bytes, RunEnd, Sink, Source};
+use script_text::{AnyEnd, BadLine, Event, LineEnd, LineError, LineFault, LineReader, read_line};
 use std::alloc::Global;
 
 /// The most lines that a script may have.
 const MOST_LINES: u32 = 100_000;
 
-/// How a run of a script ended.
+/// The first bad line of a script.
 #[derive(Clone, Copy, Debug, PartialEq, Eq)]
-pub enum RunEnd {
-    /// All of it was read and done.
-    Done,
-    /// The line of this number is the first bad one.
-    Bad(u32, BadLine),
-    /// A read failed.
-    ReadFault,
-    /// A put failed.
-    WriteFault,
-    /// Memory ran out.
-    NoMemory,
-}
-
-/// How a line of a script ended.
-#[derive(Clone, Copy, Debug, PartialEq, Eq)]
-pub(crate) enum LineRun {
-    /// It was done, and its line of the transcript is written.
-    Done,
-    /// It has a fault.
-    Bad(LineFault),
-    /// It was done, and the put of its line of the transcript failed.
-    WriteFault,
-    /// Memory ran out before it, or for the put.
-    NoMemory,
+pub struct ScriptFault {
+    /// Its number, from 1 on.
+    pub line: u32,
+    /// Why it is bad.
+    pub bad: BadLine,
 }
 
 /// Runs a script up to its end, its first bad line or a fault. Each line is done, and its line of the
@@ -50,17 +32,11 @@ pub fn run_script<S: Source, K: Sink>(
     source: &mut S,
     out: &mut K,
     runner: Runner,
-) -> (Runner, RunEnd)
+) -> (Runner, RunEnd<ScriptFault>)
     // What was taken, done and written, for every platform that the runner's board and disk hold.
-    ensures ran { Ran (K.takes_memory out.old) result.1 (S.left source.old) (S.left source.new) (K.contents out.old) (K.contents out.new) runner result.0 }
-    ensures later { S.fault_count source.old ≤ S.fault_count source.new }
-    ensures later_out { K.fault_count out.old ≤ K.fault_count out.new }
-    ensures read { result.1 ≡ RunEnd.ReadFault → Rose (S.fault_count source.old) (S.fault_count source.new) }
-    ensures write { result.1 ≡ RunEnd.WriteFault → Rose (K.fault_count out.old) (K.fault_count out.new) }
-    // No fault is passed over, or told as another end.
-    ensures source_stays { result.1 ≢ RunEnd.ReadFault → S.fault_count source.new ≡ S.fault_count source.old }
-    ensures out_stays { result.1 ≢ RunEnd.WriteFault → K.fault_count out.new ≡ K.fault_count out.old }
-    ensures takes { K.takes_memory out.new ≡ K.takes_memory out.old }
+    ensures ran { Ran result.1 (intake S.Source source.old source.new) (output K.Sink out.old out.new) runner result.0 }
+    // No fault is passed over, or reported as another end.
+    ensures caused { HasCauses result.1 (intake S.Source source.old source.new) (output K.Sink out.old out.new) }
 {
     match LineReader::new(alloc) {
         Ok(reader) => run_lines(alloc, reader, source, out, runner),
@@ -75,16 +51,10 @@ fn run_lines<S: Source, K: Sink>(
     source: &mut S,
     out: &mut K,
     runner: Runner,
-) -> (Runner, RunEnd)
+) -> (Runner, RunEnd<ScriptFault>)
     requires { reader ≡ record { bytes = []; ended = false; line = [] } }
-    ensures ran { Ran (K.takes_memory out.old) result.1 (S.left source.old) (S.left source.new) (K.contents out.old) (K.contents out.new) runner result.0 }
-    ensures later { S.fault_count source.old ≤ S.fault_count source.new }
-    ensures later_out { K.fault_count out.old ≤ K.fault_count out.new }
-    ensures read { result.1 ≡ RunEnd.ReadFault → Rose (S.fault_count source.old) (S.fault_count source.new) }
-    ensures write { result.1 ≡ RunEnd.WriteFault → Rose (K.fault_count out.old) (K.fault_count out.new) }
-    ensures source_stays { result.1 ≢ RunEnd.ReadFault → S.fault_count source.new ≡ S.fault_count source.old }
-    ensures out_stays { result.1 ≢ RunEnd.WriteFault → K.fault_count out.new ≡ K.fault_count out.old }
-    ensures takes { K.takes_memory out.new ≡ K.takes_memory out.old }
+    ensures ran { Ran result.1 (intake S.Source source.old source.new) (output K.Sink out.old out.new) runner result.0 }
+    ensures caused { HasCauses result.1 (intake S.Source source.old source.new) (output K.Sink out.old out.new) }
 {
     let mut reader = reader;
     let mut runner = runner;
@@ -93,28 +63,41 @@ fn run_lines<S: Source, K: Sink>(
         match reader.next(source) {
             LineEnd::Line => {}
             LineEnd::End => return (runner, RunEnd::Done),
-            LineEnd::Long => {
-                return (
-                    runner,
-                    RunEnd::Bad(number, BadLine::Faulty(LineFault::LongLine)),
-                );
-            }
+            LineEnd::Long => return (runner, bad_line(number, LineFault::LongLine)),
             LineEnd::Failed => return (runner, RunEnd::ReadFault),
         }
         let (next, end) = run_line(alloc, number, reader.line(), runner, out);
         runner = next;
         match end {
-            LineRun::Done => {}
-            LineRun::Bad(fault) => return (runner, RunEnd::Bad(number, BadLine::Faulty(fault))),
-            LineRun::WriteFault => return (runner, RunEnd::WriteFault),
-            LineRun::NoMemory => return (runner, RunEnd::NoMemory),
+            RunEnd::Done => {}
+            _ => return (runner, end),
         }
     }
     match reader.any(source) {
-        AnyEnd::Some => return (runner, RunEnd::Bad(MOST_LINES + 1, BadLine::TooMany)),
+        AnyEnd::Some => return (runner, too_many_lines()),
         AnyEnd::End => return (runner, RunEnd::Done),
         AnyEnd::Failed => return (runner, RunEnd::ReadFault),
     }
+}
+
+// The line of this number has a fault.
+fn bad_line(line: u32, fault: LineFault) -> RunEnd<ScriptFault>
+    ensures { result ≡ RunEnd.Bad (record { line = line; bad = BadLine.Faulty fault }) }
+{
+    RunEnd::Bad(ScriptFault {
+        line,
+        bad: BadLine::Faulty(fault),
+    })
+}
+
+// There is one line too many.
+fn too_many_lines() -> RunEnd<ScriptFault>
+    ensures { result ≡ RunEnd.Bad (record { line = most_lines + 1; bad = BadLine.TooMany }) }
+{
+    RunEnd::Bad(ScriptFault {
+        line: MOST_LINES + 1,
+        bad: BadLine::TooMany,
+    })
 }
 
 // Does the line of this number, and writes its line of the transcript.
@@ -124,17 +107,14 @@ fn run_line<K: Sink>(
     line: &[u8],
     runner: Runner,
     out: &mut K,
-) -> (Runner, LineRun)
+) -> (Runner, RunEnd<ScriptFault>)
     requires { number ≤ most_lines }
-    ensures ran { LineRan (K.takes_memory out.old) result.1 number (judged number line.now) (K.contents out.old) (K.contents out.new) runner result.0 }
-    ensures later { K.fault_count out.old ≤ K.fault_count out.new }
-    ensures cause { result.1 ≡ LineRun.WriteFault → Rose (K.fault_count out.old) (K.fault_count out.new) }
-    ensures stays { result.1 ≢ LineRun.WriteFault → K.fault_count out.new ≡ K.fault_count out.old }
-    ensures takes { K.takes_memory out.new ≡ K.takes_memory out.old }
+    ensures ran { LineRan result.1 number line.now (judged number line.now) (K.contents out.old) (K.contents out.new) runner result.0 }
+    ensures caused { WriteHasCause result.1 (output K.Sink out.old out.new) }
 {
     match read_line(alloc, line) {
-        Err(LineFault::NoMemory) => return (runner, LineRun::NoMemory),
-        Err(fault) => return (runner, LineRun::Bad(fault)),
+        Err(LineError::NoMemory) => return (runner, RunEnd::NoMemory),
+        Err(LineError::Fault(fault)) => return (runner, bad_line(number, fault)),
         Ok(event) => return run_event(alloc, number, &event, runner, out),
     }
 }
@@ -146,39 +126,22 @@ fn run_event<K: Sink>(
     event: &Event,
     runner: Runner,
     out: &mut K,
-) -> (Runner, LineRun)
+) -> (Runner, RunEnd<ScriptFault>)
     requires { HasShortName (request_of event.now) }
-    ensures ran { LineRan (K.takes_memory out.old) result.1 number (Ok (request_of event.now)) (K.contents out.old) (K.contents out.new) runner result.0 }
-    ensures later { K.fault_count out.old ≤ K.fault_count out.new }
-    ensures cause { result.1 ≡ LineRun.WriteFault → Rose (K.fault_count out.old) (K.fault_count out.new) }
-    ensures stays { result.1 ≢ LineRun.WriteFault → K.fault_count out.new ≡ K.fault_count out.old }
-    ensures takes { K.takes_memory out.new ≡ K.takes_memory out.old }
+    ensures ran { (text : List ℕ) → LineRan result.1 number text (Ok (request_of event.now)) (K.contents out.old) (K.contents out.new) runner result.0 }
+    ensures caused { WriteHasCause result.1 (output K.Sink out.old out.new) }
 {
     let mut answer = Bytes::new(alloc);
     let (runner, end) = runner.step(number, event, &mut answer);
     match end {
-        StepEnd::NoMemory => return (runner, LineRun::NoMemory),
+        StepEnd::NoMemory => return (runner, RunEnd::NoMemory),
         StepEnd::Done => {}
     }
     if answer.as_slice().is_empty() {
-        return (runner, LineRun::Done);
+        return (runner, RunEnd::Done);
     }
-    let end = write(&answer, out);
-    (runner, end)
-}
-
-// Writes an answer that has bytes, by one put.
-fn write<K: Sink>(answer: &Bytes, out: &mut K) -> LineRun
-    requires { answer.now.bytes ≢ [] }
-    ensures put { PutRan (K.takes_memory out.old) result (K.contents out.old) (K.contents out.new) answer.now.bytes }
-    ensures later { K.fault_count out.old ≤ K.fault_count out.new }
-    ensures cause { result ≡ LineRun.WriteFault → Rose (K.fault_count out.old) (K.fault_count out.new) }
-    ensures stays { result ≢ LineRun.WriteFault → K.fault_count out.new ≡ K.fault_count out.old }
-    ensures takes { K.takes_memory out.new ≡ K.takes_memory out.old }
-{
     match out.put(answer.as_slice()) {
-        Ok(()) => return LineRun::Done,
-        Err(PutFault::Failed) => return LineRun::WriteFault,
-        Err(PutFault::NoMemory) => return LineRun::NoMemory,
+        Ok(()) => return (runner, RunEnd::Done),
+        Err(fault) => return (runner, RunEnd::Cut(fault)),
     }
 }

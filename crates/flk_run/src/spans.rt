@@ -5,6 +5,7 @@ ghost use Rattle.machine_memory.specs.Contents.{first_byte};
 use crate::board::Board;
 use flk_base::NoMemory;
 use region_pool::Ticket;
+use std::alloc::Global;
 use std::marker::Model;
 
 /// The tickets of the spans that the host holds. They must be spent. Contracts see the spans.
@@ -24,6 +25,15 @@ impl Model for Spans {
 impl Spans {
     ghost use Rattle.flk_run.specs.Parts.{HoldsSpans};
     ghost use Rattle.flk_run.specs.Taking.{after_give_all};
+
+    /// No spans, which take no memory.
+    pub fn none(alloc: Global) -> Spans
+        ensures { result ≡ [] }
+    {
+        Spans {
+            tickets: Vec::new(alloc),
+        }
+    }
 
     /// Gives each span back, the last of them first: its bytes become zero.
     pub fn give_all(self, board: &mut Board)

@@ -1,7 +1,8 @@
 // What an event comes to once its expressions have their values.
-ghost use Rattle.std.specs.Prelude.{◌≡◌, ◌≢◌, ◌≤◌, length, replicate, IfOk, IsOk, IsErr};
+ghost use Rattle.std.specs.Prelude.{◌≡◌, ◌≤◌, length, replicate, IfOk, IsOk, IsErr};
 ghost use Rattle.script_text.specs.Values.{value_of, longest_value};
 ghost use Rattle.script_text.specs.Seen.{request_of, HasShortName};
+ghost use Rattle.script_text.specs.declared.value.ExprFault.{ExprFault};
 ghost use Rattle.slb_image.specs.Faults.{build_fault};
 ghost use Rattle.slb_image.specs.Image.{pack};
 ghost use Rattle.flk_run.specs.Tasks.{Refuse, Extend, Bind, Show, Poke, Dma, evaluated, imaged, peeked, room, task_of, TakesMemory};
@@ -9,7 +10,7 @@ ghost use Rattle.flk_run.specs.Seen.{seen, binds, takes, IsNamed, IsShown};
 
 use crate::answers::Refusal;
 use flk_base::{Bytes, NoMemory};
-use script_text::{Event, Expr, ExprFault, Vars};
+use script_text::{Event, Expr, ExprError, Vars};
 use slb_image::{BuildError, build};
 use std::alloc::Global;
 
@@ -51,16 +52,14 @@ pub(crate) enum Task<'e> {
     Dma { at: u32, bytes: Bytes },
 }
 
-// The answer that an expression has no value; want of memory is none.
-fn refused(fault: ExprFault) -> Result<Task<'static>, NoMemory>
-    ensures refused { IfOk result (λ task. (seen task ≡ Refuse (Refusal.NoValue fault)) × (fault ≢ ExprFault.NoMemory)) }
-    ensures want { IsErr result → fault ≡ ExprFault.NoMemory }
+// The answer that an expression has no value; there is none where memory ran out.
+fn refused(error: ExprError) -> Result<Task<'static>, NoMemory>
+    ensures refused { IfOk result (λ task. (fault : ExprFault) × (error ≡ ExprError.Fault fault) × (seen task ≡ Refuse (Refusal.NoValue fault))) }
+    ensures want { IsErr result → error ≡ ExprError.NoMemory }
 {
-    match fault {
-        ExprFault::NoMemory => return Err(NoMemory),
-        ExprFault::Name | ExprFault::Range | ExprFault::Long => {
-            return Ok(Task::Refuse(Refusal::NoValue(fault)));
-        }
+    match error {
+        ExprError::Fault(fault) => return Ok(Task::Refuse(Refusal::NoValue(fault))),
+        ExprError::NoMemory => return Err(NoMemory),
     }
 }
 
@@ -70,7 +69,7 @@ fn extend_task(alloc: Global, r: u32, text: &Expr, vars: &Vars) -> Result<Task<'
 {
     match text.value(alloc, vars) {
         Ok(text) => return Ok(Task::Extend { r, text }),
-        Err(fault) => return refused(fault),
+        Err(error) => return refused(error),
     }
 }
 
@@ -85,7 +84,7 @@ fn bind_task<'e>(
 {
     match value.value(alloc, vars) {
         Ok(value) => return Ok(Task::Bind { name, value }),
-        Err(fault) => return refused(fault),
+        Err(error) => return refused(error),
     }
 }
 
@@ -96,7 +95,7 @@ fn show_task(alloc: Global, value: &Expr, vars: &Vars) -> Result<Task<'static>, 
 {
     match value.value(alloc, vars) {
         Ok(value) => return Ok(Task::Show { value }),
-        Err(fault) => return refused(fault),
+        Err(error) => return refused(error),
     }
 }
 
@@ -138,7 +137,7 @@ fn image_task<'e>(
 {
     match code.value(alloc, vars) {
         Ok(code) => return image_of(alloc, name, front, code.as_slice()),
-        Err(fault) => return refused(fault),
+        Err(error) => return refused(error),
     }
 }
 
@@ -148,7 +147,7 @@ fn poke_task(alloc: Global, at: u32, bytes: &Expr, vars: &Vars) -> Result<Task<'
 {
     match bytes.value(alloc, vars) {
         Ok(bytes) => return Ok(Task::Poke { at, bytes }),
-        Err(fault) => return refused(fault),
+        Err(error) => return refused(error),
     }
 }
 
@@ -173,7 +172,7 @@ fn dma_task(alloc: Global, at: u32, bytes: &Expr, vars: &Vars) -> Result<Task<'s
 {
     match bytes.value(alloc, vars) {
         Ok(bytes) => return Ok(Task::Dma { at, bytes }),
-        Err(fault) => return refused(fault),
+        Err(error) => return refused(error),
     }
 }
 

@@ -1,27 +1,25 @@
-use Rattle.std.proofs.Common.{◌≡◌, true, sym, ◌∙◌, subst, refl}
-use Rattle.flicker_cli.specs.declared.outcome.Outcome.TheVariants.{Done}
-use Rattle.flicker_cli.specs.Text.{end_on}
-use Rattle.flicker_cli.proofs.TopLemmas.{answered_command, answered_usage, complete_command}
+use Rattle.std.proofs.Common.{subst}
+use Rattle.std.specs.Prelude.{Option, Some}
+use Rattle.flk_base.specs.Streams.{intake, output}
+use Rattle.flk_run.specs.Parts.{Machine}
+use Rattle.flicker_cli.specs.declared.words.Command.{Command}
+use Rattle.flicker_cli.specs.Calls.{CallRan}
+use Rattle.flicker_cli.proofs.CallLemmas.{text_of, complete_call}
 use Rattle.flicker_cli.proofs.top.flicker.Goals as goal
 
-pub returns-in-None-clause-answered : goal.returns-in-None-clause-answered
-returns-in-None-clause-answered g c =
-    let task = sym c.command_of.ensures ∙ c.in-None.is in
-    rw (task, c.finished.ensures.status, c.finished.ensures.board, c.finished.ensures.disk, c.finished.ensures.spans, c.new-runner.ensures.board, c.new-runner.ensures.disk)
-    (answered_usage _ _ c.say-status.result _ _ _ (record { unread = refl; unwritten = refl; kept = refl; untaken = c.new-runner.ensures.spans }) c.say-status.ensures.tried refl refl)
+pub returns-clause-text : goal.returns-clause-text
+returns-clause-text g c few =
+    let did = c.carry_out-end in
+    text_of (intake g.S.Source c.args.source.now did.new.source) (output g.K.Sink c.args.out.now did.new.out) (output g.E.Sink c.args.err.now c.report-cut.new.err) _ _ did.result.spans _ c.status_after.result
+    (record { end = did.result.end; cut = c.report-cut.result; ran = did.ensures.ran; caused = did.ensures.caused; reported = c.report-cut.ensures; answer = c.status_after.ensures }) few
 
-pub returns-in-Some-clause-answered : goal.returns-in-Some-clause-answered
-returns-in-Some-clause-answered g c =
-    let task = sym c.command_of.ensures ∙ c.in-Some.is in
-    let e = c.run-runner.ensures in
-    rw (task, c.finished-in-Some.ensures.status, c.finished-in-Some.ensures.board, c.finished-in-Some.ensures.disk, c.finished-in-Some.ensures.spans, ← c.new-runner.ensures.board, ← c.new-runner.ensures.disk)
-    (answered_command c.in-Some.command _ _ c.run-runner.result.1 c.new-runner.result.machine c.run-runner.result.0.machine c.run-runner.result.0.spans e.0 e.1)
-
-pub returns-in-Some-clause-complete : goal.returns-in-Some-clause-complete
-returns-in-Some-clause-complete g c task is content same good =
-    let e = c.run-runner.ensures in
-    let known = sym c.command_of.ensures ∙ c.in-Some.is in
-    let both = sym is ∙ known in
-    let one : task ≡ c.in-Some.command = cc in
-    rw c.finished-in-Some.ensures.status
-    (complete_command c.in-Some.command _ _ c.run-runner.result.1 c.new-runner.result.machine c.run-runner.result.0.machine c.run-runner.result.0.spans e.0 content e.1 same (subst (λ t. end_on t content true ≡ Done) one good))
+pub returns-clause-complete : goal.returns-clause-complete
+returns-clause-complete g c task is content known good =
+    let did = c.carry_out-end in
+    let source = intake g.S.Source c.args.source.now did.new.source in
+    let out = output g.K.Sink c.args.out.now did.new.out in
+    let from : Machine = record { board = c.args.board; disk = c.args.disk } in
+    let at : Machine = record { board = did.result.board; disk = did.result.disk } in
+    let ran = subst (λ (t : Option Command). CallRan t did.result.end source out from at did.result.spans) is did.ensures.ran in
+    rw c.status_after.ensures
+    (complete_call source out (output g.E.Sink c.args.err.now c.report-cut.new.err) from at did.result.spans (Some task) content did.result.end c.report-cut.result ran did.ensures.caused c.report-cut.ensures known good)

@@ -4,7 +4,7 @@ use Rattle.script_text.specs.Reader.{read_size}
 use Rattle.flk_run.proofs.RunLemmas.{Progress}
 use Rattle.flk_run.proofs.run.run_lines.Given as goal
 
--- the lines before this one are good, done and written, and the reader is not far ahead
+-- the lines before this one are good, done and written, the reader is not far ahead, and no fault was counted
 abbrev pub invariant-loop-before : goal.invariant-loop-before
 invariant-loop-before g l =
     let left = g.S.Source.left in
@@ -15,5 +15,4 @@ invariant-loop-before g l =
       near : length l.reader.bytes ≤ read_size;
       stays : g.S.Source.fault_count l.source ≡ g.S.Source.fault_count l.fn.source;
       out_stays : g.K.Sink.fault_count l.out ≡ g.K.Sink.fault_count l.fn.out;
-      takes : g.K.Sink.takes_memory l.out ≡ g.K.Sink.takes_memory l.fn.out;
     }

@@ -1,6 +1,6 @@
 use Rattle.std.proofs.Common.{◌≡◌, ◌++◌, drop}
 use Rattle.std.specs.Vec.Iter.{into_iter_items, into_iter_len}
-use Rattle.flicker_cli.proofs.words_of.Given as goal
+use Rattle.flicker_cli.proofs.start.words_of.Given as goal
 
 -- what is left of the given words follows those that were kept
 abbrev pub invariant-words : goal.invariant-words

@@ -1,0 +1,303 @@
+-- What a call's end says of its status, and of what the bytes taken are.
+use Rattle.std.proofs.Common.{◌≡◌, ◌⊎◌, inl, inr, ℕ, ◌+◌, ◌≤◌, Bool, true, false, List, [], ◌++◌, length, refl, sym, ap, ◌∙◌, subst, arith, append-nil, length-append}
+use Rattle.std.specs.Prelude.{Option, Some, None, nat_lt}
+use Rattle.std.specs.FinMap.{empty}
+use Rattle.std.specs.Io.KnownBytes.{Consumes}
+use Rattle.std.proofs.KnownBytes.{Consumes-nil}
+use Rattle.std.proofs.lemmas.Bool.Decides.{nat_tests}
+use Rattle.region_pool.specs.Spans.{Span}
+use Rattle.flk_base.specs.Causes.{Rose}
+use Rattle.flk_base.specs.Streams.{Intake, Output, Takes, IsSettled}
+use Rattle.flk_base.specs.RunEnds.{HasCauses, mapped}
+use Rattle.flk_base.specs.declared.run_end.RunEnd.{RunEnd}
+use Rattle.flk_base.specs.declared.run_end.RunEnd.TheVariants.{Done, Bad, ReadFault, Cut, NoMemory}
+use Rattle.flk_base.specs.declared.streams.PutFault.{PutFault}
+use Rattle.flk_base.specs.declared.streams.PutFault.TheVariants as put
+use Rattle.flk_run.specs.declared.run.ScriptFault.{ScriptFault}
+use Rattle.script_text.specs.Variables.{Table}
+use Rattle.flk_run.specs.declared.board.SimDisk.{SimDisk}
+use Rattle.flk_run.specs.Parts.{BoardParts, Machine, Experiment}
+use Rattle.flk_run.specs.Runs.{Ran, AllDone}
+use Rattle.flk_base.proofs.TakenLemmas.{the_end, says_end}
+use Rattle.flk_filters.specs.declared.fault.BadInput.{BadInput}
+use Rattle.flk_filters.specs.declared.fault.BadInput.TheVariants.{TooLong}
+use Rattle.flk_filters.specs.declared.filter.Filter.{Filter as Which}
+use Rattle.flk_filters.specs.declared.filter.Filter.TheVariants.{Asm, Dis, Measure}
+use Rattle.flk_filters.specs.Filters.{most_input, fault_in}
+use Rattle.flk_filters.specs.Inputs.{IsInput, FilterRan, Filtered, Refused}
+use Rattle.flicker_cli.specs.declared.words.Command.{Command}
+use Rattle.flicker_cli.specs.declared.words.Command.TheVariants.{Run, Filter}
+use Rattle.flicker_cli.specs.declared.fault.Fault.{Fault}
+use Rattle.flicker_cli.specs.declared.fault.Fault.TheVariants.{Words, Script, Input}
+use Rattle.flicker_cli.specs.Messages.{message_of, fault_status}
+use Rattle.flicker_cli.specs.Calls.{with_names, ScriptRan, InputRan, CallRan, Reported, status_after, Answered}
+use Rattle.flicker_cli.specs.Texts.{script_end, input_end, end_on, IsText}
+
+-- ---- what the bytes taken are
+
+-- the end is that of the bytes taken, whatever follows them
+pub record Judged (task : Option Command) (end : RunEnd Fault) (before now : Option (List ℕ)) : Type 0 where
+  pub taken : List ℕ
+  pub ended : Bool
+  pub takes : Takes before now taken ended
+  pub settled : IsSettled (end_on task) taken ended end
+  pub read : end ≡ Done → ended ≡ true
+
+-- words that are no command
+judged_words : (before now : Option (List ℕ)) → now ≡ before → Judged None (Bad Words) before now
+judged_words before now same = record {
+  taken = [];
+  ended = the_end false now;
+  takes = record { consumed = subst (λ o. Consumes before o []) (sym same) (Consumes-nil before); end = says_end false now (λ seen. absurd (cc)) };
+  settled = record { is = refl; stays = λ more ends. refl };
+  read = λ done. absurd (cc);
+}
+
+-- a script
+judged_script : (source source' out out' : Option (List ℕ)) (from at : Experiment) (bad : Option ScriptFault) → AllDone source source' out out' from at bad
+    → (script_end bad ≡ Done → bad ≡ None) → Judged (Some Run) (script_end bad) source source'
+judged_script source source' out out' from at bad d none = record {
+  taken = d.taken;
+  ended = d.ended;
+  takes = d.takes;
+  settled = record { is = ap script_end d.judged.is; stays = λ more ends. ap script_end (d.judged.stays more ends) };
+  read = λ done. d.read (none done);
+}
+
+-- an input with more bytes than it may have, however many more
+too_long : (which : Which) (input : List ℕ) → most_input + 1 ≤ length input → fault_in which input ≡ Some TooLong
+too_long Asm input long = let t : nat_lt most_input (length input) ≡ true = grind (arith, nat_tests, long) in rw t refl
+too_long Dis input long = let t : nat_lt most_input (length input) ≡ true = grind (arith, nat_tests, long) in rw t refl
+too_long Measure input long = let t : nat_lt most_input (length input) ≡ true = grind (arith, nat_tests, long) in rw t refl
+
+-- a longer input has the same fault, where it may be longer
+settled_input : (which : Which) (taken : List ℕ) (ended : Bool) (fault : Option BadInput) → IsInput taken ended → fault_in which taken ≡ fault → IsSettled (end_on (Some (Filter which))) taken ended (input_end fault)
+settled_input which taken ended fault input is = record {
+  is = ap input_end is;
+  stays = λ more ends. elim input.whole [
+    | inl all ↦ ap (λ bytes. input_end (fault_in which bytes)) (ap (λ m. taken ++ m) (ends all) ∙ append-nil taken) ∙ ap input_end is
+    | inr long ↦ ap input_end (too_long which (taken ++ more) (omega (arith, long, length-append taken more)) ∙ sym (too_long which taken (omega (arith, long))) ∙ is)
+  ];
+}
+
+-- an input without a fault is all of the source
+all_read : (which : Which) (taken : List ℕ) (ended : Bool) → IsInput taken ended → fault_in which taken ≡ None → ended ≡ true
+all_read which taken ended input good = elim input.whole [
+  | inl end ↦ end
+  | inr long ↦ let e : None ≡ Some TooLong = sym good ∙ too_long which taken (omega (arith, long)) in cc
+]
+
+judged_filtered : (which : Which) (source source' out out' : Option (List ℕ)) → Filtered which source source' out out' → Judged (Some (Filter which)) Done source source'
+judged_filtered which source source' out out' d = record {
+  taken = d.taken;
+  ended = d.takes.ended;
+  takes = d.takes.takes;
+  settled = settled_input which d.taken d.takes.ended None d.takes.input d.makes.good;
+  read = λ done. all_read which d.taken d.takes.ended d.takes.input d.makes.good;
+}
+
+judged_refused : (which : Which) (source source' out out' : Option (List ℕ)) (bad : BadInput) → Refused which source source' out out' bad → Judged (Some (Filter which)) (Bad (Input bad)) source source'
+judged_refused which source source' out out' bad d = record {
+  taken = d.taken;
+  ended = d.takes.ended;
+  takes = d.takes.takes;
+  settled = settled_input which d.taken d.takes.ended (Some bad) d.takes.input d.fault;
+  read = λ done. absurd (cc);
+}
+
+-- ---- each end
+
+-- all was done, or something is not of its form
+abbrev pub IsTextEnd : RunEnd Fault → Type 0
+IsTextEnd Done = Unit {0}
+IsTextEnd (Bad fault) = Unit {0}
+IsTextEnd other = ⊥
+
+module _ (source : Intake) (out : Output) (from at : Machine) (spans : List Span) where
+  by_script : (end : RunEnd Fault) → IsTextEnd end → ScriptRan end source out from at spans → Judged (Some Run) end source.old.left source.new.left
+  by_script end is d = subst (λ (e : RunEnd Fault). Judged (Some Run) e source.old.left source.new.left) (sym d.is) (how_it_ran d.how (subst IsTextEnd d.is is) d.ran) where
+    how_it_ran : (how : RunEnd ScriptFault) → IsTextEnd (mapped Script how) → Ran how source out (with_names from empty []) (with_names at d.variables spans) → Judged (Some Run) (mapped Script how) source.old.left source.new.left
+    how_it_ran Done is ran = judged_script source.old.left source.new.left out.old.contents out.new.contents _ _ None ran (λ e. refl)
+    how_it_ran (Bad first) is ran = judged_script source.old.left source.new.left out.old.contents out.new.contents _ _ (Some first) ran (λ e. cc)
+    how_it_ran ReadFault is ran = absurd is
+    how_it_ran (Cut fault) is ran = absurd is
+    how_it_ran NoMemory is ran = absurd is
+
+  by_filter : (which : Which) (end : RunEnd Fault) → IsTextEnd end → InputRan which end source out from at spans → Judged (Some (Filter which)) end source.old.left source.new.left
+  by_filter which end is d = subst (λ (e : RunEnd Fault). Judged (Some (Filter which)) e source.old.left source.new.left) (sym d.is) (how_it_ran d.how (subst IsTextEnd d.is is) d.ran) where
+    how_it_ran : (how : RunEnd BadInput) → IsTextEnd (mapped Input how) → FilterRan which how source out → Judged (Some (Filter which)) (mapped Input how) source.old.left source.new.left
+    how_it_ran Done is ran = judged_filtered which source.old.left source.new.left out.old.contents out.new.contents ran
+    how_it_ran (Bad bad) is ran = judged_refused which source.old.left source.new.left out.old.contents out.new.contents bad ran
+    how_it_ran ReadFault is ran = absurd is
+    how_it_ran (Cut fault) is ran = absurd is
+    how_it_ran NoMemory is ran = absurd is
+
+  -- the end of a call is that of the bytes taken
+  pub judged_call : (task : Option Command) (end : RunEnd Fault) → IsTextEnd end → CallRan task end source out from at spans → Judged task end source.old.left source.new.left
+  judged_call None end is ran = subst (λ (e : RunEnd Fault). Judged None e source.old.left source.new.left) (sym ran.0) (judged_words source.old.left source.new.left ran.1.unread)
+  judged_call (Some Run) end is ran = by_script end is ran
+  judged_call (Some (Filter which)) end is ran = by_filter which end is ran
+
+  -- only words that are no command end with them
+  pub no_command : (task : Option Command) (end : RunEnd Fault) → CallRan task end source out from at spans → end ≡ Bad Words → task ≡ None
+  no_command None end ran words = refl
+  no_command (Some Run) end ran words = absurd (never_script ran.how (sym ran.is ∙ words)) where
+    never_script : (how : RunEnd ScriptFault) → mapped Script how ≡ Bad Words → ⊥
+    never_script Done e = cc
+    never_script (Bad first) e = cc
+    never_script ReadFault e = cc
+    never_script (Cut fault) e = cc
+    never_script NoMemory e = cc
+  no_command (Some (Filter which)) end ran words = absurd (never_filter ran.how (sym ran.is ∙ words)) where
+    never_filter : (how : RunEnd BadInput) → mapped Input how ≡ Bad Words → ⊥
+    never_filter Done e = cc
+    never_filter (Bad bad) e = cc
+    never_filter ReadFault e = cc
+    never_filter (Cut fault) e = cc
+    never_filter NoMemory e = cc
+
+  pub words_end : (end : RunEnd Fault) → CallRan None end source out from at spans → end ≡ Bad Words
+  words_end end ran = ran.0
+
+-- ---- calls
+
+-- an experiment by its parts
+pub same_experiment : (e : Experiment) (board : BoardParts) (disk : SimDisk) (variables : Table) (spans : List Span) → e.machine.board ≡ board → e.machine.disk ≡ disk → e.variables ≡ variables → e.spans ≡ spans
+    → e ≡ with_names (record { board = board; disk = disk }) variables spans
+same_experiment e board disk variables spans b d v s =
+    ap (λ (x : BoardParts). with_names (record { board = x; disk = e.machine.disk }) e.variables e.spans) b
+    ∙ ap (λ (x : SimDisk). with_names (record { board = board; disk = x }) e.variables e.spans) d
+    ∙ ap (λ (x : Table). with_names (record { board = board; disk = disk }) x e.spans) v
+    ∙ ap (λ (x : List Span). with_names (record { board = board; disk = disk }) variables x) s
+
+-- a run as that of a call
+pub script_ran : (how : RunEnd ScriptFault) (end : RunEnd Fault) (source : Intake) (out : Output) (old new : Experiment) (from at : Machine) (spans : List Span)
+    → end ≡ mapped Script how → old ≡ with_names from empty [] → new ≡ with_names at new.variables spans → Ran how source out old new → ScriptRan end source out from at spans
+script_ran how end source out old new from at spans is begun left ran = record {
+  how = how;
+  is = is;
+  variables = new.variables;
+  ran = subst (λ (e : Experiment). Ran how source out (with_names from empty []) e) left (subst (λ (e : Experiment). Ran how source out e new) begun ran);
+}
+
+-- memory ran out before anything was begun
+pub no_room : (command : Command) (source : Intake) (out : Output) (from : Machine) → source.IsUntouched → out.new.contents ≡ out.old.contents → CallRan (Some command) NoMemory source out from from []
+no_room Run source out from same unwritten = record { how = NoMemory; is = refl; variables = empty; ran = inl (same, record { unwritten = unwritten; kept = refl }) }
+no_room (Filter which) source out from same unwritten = record { how = NoMemory; is = refl; ran = inl (same, unwritten); kept = refl; none = refl }
+
+-- ---- statuses
+
+fault_few : (fault : Fault) → (fault_status fault ≡ 1) ⊎ ((fault_status fault ≡ 2) × (fault ≡ Words))
+fault_few Words = inr (refl, refl)
+fault_few (Script first) = inl refl
+fault_few (Input bad) = inl refl
+
+pub known_after : (end : RunEnd Fault) (cut : Option PutFault) → status_after end cut ≤ 5
+known_after end (Some put.Failed) = omega arith
+known_after end (Some put.NoMemory) = omega arith
+known_after Done None = omega arith
+known_after (Bad Words) None = omega arith
+known_after (Bad (Script first)) None = omega arith
+known_after (Bad (Input bad)) None = omega arith
+known_after ReadFault None = omega arith
+known_after (Cut put.Failed) None = omega arith
+known_after (Cut put.NoMemory) None = omega arith
+known_after NoMemory None = omega arith
+
+pub two_after : (end : RunEnd Fault) (cut : Option PutFault) → status_after end cut ≡ 2 → end ≡ Bad Words
+two_after end (Some put.Failed) is = absurd (omega (arith, is))
+two_after end (Some put.NoMemory) is = absurd (omega (arith, is))
+two_after Done None is = absurd (omega (arith, is))
+two_after (Bad Words) None is = refl
+two_after (Bad (Script first)) None is = absurd (omega (arith, is))
+two_after (Bad (Input bad)) None is = absurd (omega (arith, is))
+two_after ReadFault None is = absurd (omega (arith, is))
+two_after (Cut put.Failed) None is = absurd (omega (arith, is))
+two_after (Cut put.NoMemory) None is = absurd (omega (arith, is))
+two_after NoMemory None is = absurd (omega (arith, is))
+
+pub few_after : (end : RunEnd Fault) (cut : Option PutFault) → status_after end cut ≤ 2 → IsTextEnd end × (cut ≡ None)
+few_after end (Some put.Failed) few = absurd (omega (arith, few))
+few_after end (Some put.NoMemory) few = absurd (omega (arith, few))
+few_after Done None few = (tt, refl)
+few_after (Bad fault) None few = (tt, refl)
+few_after ReadFault None few = absurd (omega (arith, few))
+few_after (Cut put.Failed) None few = absurd (omega (arith, few))
+few_after (Cut put.NoMemory) None few = absurd (omega (arith, few))
+few_after NoMemory None few = absurd (omega (arith, few))
+
+-- the status of words that are no command
+pub words_after : (cut : Option PutFault) → (status_after (Bad Words) cut ≡ 2) ⊎ ((status_after (Bad Words) cut ≡ 4) ⊎ (status_after (Bad Words) cut ≡ 5))
+words_after None = inl refl
+words_after (Some put.Failed) = inr (inl refl)
+words_after (Some put.NoMemory) = inr (inr refl)
+
+module _ (source : Intake) (out err : Output) where
+  pub three_after : (end : RunEnd Fault) (cut : Option PutFault) → HasCauses end source out → status_after end cut ≡ 3 → Rose source.old.faults source.new.faults
+  three_after end (Some put.Failed) caused is = absurd (omega (arith, is))
+  three_after end (Some put.NoMemory) caused is = absurd (omega (arith, is))
+  three_after Done None caused is = absurd (omega (arith, is))
+  three_after (Bad Words) None caused is = absurd (omega (arith, is))
+  three_after (Bad (Script first)) None caused is = absurd (omega (arith, is))
+  three_after (Bad (Input bad)) None caused is = absurd (omega (arith, is))
+  three_after ReadFault None caused is = caused.read.1
+  three_after (Cut put.Failed) None caused is = absurd (omega (arith, is))
+  three_after (Cut put.NoMemory) None caused is = absurd (omega (arith, is))
+  three_after NoMemory None caused is = absurd (omega (arith, is))
+
+  pub four_after : (end : RunEnd Fault) (cut : Option PutFault) → HasCauses end source out → Reported (message_of end) cut err → status_after end cut ≡ 4
+      → Rose out.old.faults out.new.faults ⊎ Rose err.old.faults err.new.faults
+  four_after end (Some put.Failed) caused said is = inr said.2.1
+  four_after end (Some put.NoMemory) caused said is = absurd (omega (arith, is))
+  four_after Done None caused said is = absurd (omega (arith, is))
+  four_after (Bad Words) None caused said is = absurd (omega (arith, is))
+  four_after (Bad (Script first)) None caused said is = absurd (omega (arith, is))
+  four_after (Bad (Input bad)) None caused said is = absurd (omega (arith, is))
+  four_after ReadFault None caused said is = absurd (omega (arith, is))
+  four_after (Cut put.Failed) None caused said is = inl caused.write.1
+  four_after (Cut put.NoMemory) None caused said is = absurd (omega (arith, is))
+  four_after NoMemory None caused said is = absurd (omega (arith, is))
+
+-- ---- texts
+
+-- what a source is of which these bytes were taken that are all
+no_fault : (task : Option Command) (content : List ℕ) (fault : Fault) (now : Option (List ℕ)) → Judged task (Bad fault) (Some content) now → end_on task content true ≡ Done → ⊥
+no_fault task content fault None j good = j.takes.consumed
+no_fault task content fault (Some rest) j good =
+    let whole : content ≡ j.taken ++ rest = j.takes.consumed in
+    let bad : end_on task (j.taken ++ rest) true ≡ Bad fault = j.settled.stays rest j.takes.end.0 in
+    let same : end_on task (j.taken ++ rest) true ≡ Done = ap (λ bytes. end_on task bytes true) (sym whole) ∙ good in
+    cc
+
+module _ (source : Intake) (out err : Output) (from at : Machine) (spans : List Span) where
+  -- a call whose status is 0, 1 or 2
+  pub text_of : (task : Option Command) (status : ℕ) → Answered task status source out err from at spans → status ≤ 2 → IsText task status source err
+  text_of task status a few =
+      let w = few_after a.end a.cut (subst (λ (n : ℕ). n ≤ 2) a.answer few) in
+      let j = judged_call source out from at spans task a.end w.0 a.ran in
+      let said : Reported (message_of a.end) None err = subst (λ (c : Option PutFault). Reported (message_of a.end) c err) w.1 a.reported in
+      record {
+        taken = j.taken;
+        ended = j.ended;
+        takes = j.takes;
+        end = a.end;
+        settled = j.settled;
+        read = j.read;
+        written = said.0;
+        answer = a.answer ∙ ap (status_after a.end) w.1;
+      }
+
+  -- a source that is of its command's form
+  pub complete_call : (task : Option Command) (content : List ℕ) (end : RunEnd Fault) (cut : Option PutFault) → CallRan task end source out from at spans → HasCauses end source out → Reported (message_of end) cut err
+      → source.old.left ≡ Some content → end_on task content true ≡ Done
+      → (status_after end cut ≡ 0) ⊎ ((status_after end cut ≡ 5) ⊎ (Rose source.old.faults source.new.faults ⊎ (Rose out.old.faults out.new.faults ⊎ Rose err.old.faults err.new.faults)))
+  complete_call task content end (Some put.Failed) ran caused said known good = inr (inr (inr (inr said.2.1)))
+  complete_call task content end (Some put.NoMemory) ran caused said known good = inr (inl refl)
+  complete_call task content Done None ran caused said known good = inl refl
+  complete_call task content (Bad fault) None ran caused said known good =
+      let j = judged_call source out from at spans task (Bad fault) tt ran in
+      absurd (no_fault task content fault source.new.left (subst (λ (o : Option (List ℕ)). Judged task (Bad fault) o source.new.left) known j) good)
+  complete_call task content ReadFault None ran caused said known good = inr (inr (inl caused.read.1))
+  complete_call task content (Cut put.Failed) None ran caused said known good = inr (inr (inr (inl caused.write.1)))
+  complete_call task content (Cut put.NoMemory) None ran caused said known good = inr (inl refl)
+  complete_call task content NoMemory None ran caused said known good = inr (inl refl)
