@@ -3,17 +3,20 @@
 
 mod answers;
 mod board;
+mod disk;
 mod events;
-mod memory;
+mod hardware;
+mod laws;
 mod run;
 mod runner;
-mod spans;
 mod tasks;
 #[cfg(test)]
 mod tests;
+mod tickets;
 
 pub use answers::Refusal;
-pub use board::{Board, SimDisk};
+pub use board::Board;
+pub use disk::SimDisk;
+pub use laws::{script_is_one_plan, scripts_by_lists};
 pub use run::{ScriptFault, run_script};
 pub use runner::{Runner, StepEnd};
-pub use spans::Spans;

@@ -1,0 +1,14 @@
+-- What a platform of lists has to do with one of digests.
+use Rattle.std.specs.Prelude.{◌≡◌}
+use Rattle.flk_run.specs.Platform.{ListPlatform, DigestPlatform, platform_digested}
+use Rattle.flk_run.specs.Answers.{Answer}
+
+-- a platform of lists by digests, beside an answer
+abbrev pub step_digested : ListPlatform × Answer → DigestPlatform × Answer
+step_digested end = (platform_digested end.0, end.1)
+
+-- from a platform of lists the same comes true of one that stands for the new platform of digests
+pub record AgreesByLists (Comes : ListPlatform → ListPlatform → Type 0) (old : ListPlatform) (new : DigestPlatform) : Type 0 where
+  pub left : ListPlatform
+  pub stands : platform_digested left ≡ new
+  pub comes : Comes old left
