@@ -4,7 +4,7 @@ use Rattle.seal_device.specs.Digests.{digests}
 use Rattle.script_text.specs.Grammar.{Request}
 use Rattle.script_text.specs.Variables.{Table}
 use Rattle.flk_run.specs.declared.disk.SimDisk.{SimDisk}
-use Rattle.flk_run.specs.HostMemory.{HostMemory}
+use Rattle.machine_memory.specs.HostMemory.{HostMemory}
 use Rattle.flk_run.specs.Platform.{DigestPlatform, with_memory}
 use Rattle.flk_run.specs.Answers.{Answer}
 use Rattle.flk_run.specs.Events.{task_step, step}

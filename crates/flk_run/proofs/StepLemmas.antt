@@ -16,7 +16,7 @@ use Rattle.machine_memory.specs.Spans.{LiesInSpan, with_bytes, after_give}
 use Rattle.machine_memory.specs.DeviceWrites.{may_write, device_end, after_device_write}
 use Rattle.machine_memory.specs.declared.device.DevEnd.TheVariants as device
 use Rattle.flk_run.specs.declared.answers.Refusal.TheVariants.{NoRoom, NoSpan, NoTaken, NoBlocked}
-use Rattle.flk_run.specs.HostMemory.{HostSpan, HostMemory, place, starts_at, are_taken, are_open, with_span, without_span}
+use Rattle.machine_memory.specs.HostMemory.{HostSpan, HostMemory, place, starts_at, are_taken, are_open, with_span, without_span}
 use Rattle.flk_run.specs.Answers.{Answer, Done, Counts, Shows, Refused}
 use Rattle.flk_run.specs.Events.{span_taken, span_given, written_by_host, bytes_shown, written_by_device}
 use Rattle.flk_run.specs.Parts.{HoldsSpans, as_host, host_span, MemoryStands, HasTickets, host_memory}
@@ -83,7 +83,7 @@ take_done frames m new spans t h some took =
     let taken : HostSpan = record { first = t.first; frames = frames } in
     let is : t ≡ as_host taken = serves frames t took.long took.purpose in
     let some_frames : eqb frames 0 ≡ false = false_from_ne_true _ (λ e. let z = eqb-true frames 0 e in omega arith) in
-    let at_place : place p.spans frames ≡ Some t.first = place_found m.marks p.spans frames t.first h.stands.marks some took.lowest in
+    let at_place : place p.spans frames 1 ≡ Some t.first = place_found m.marks p.spans frames 1 t.first h.stands.marks some took.lowest in
     let tickets : spans ++ t ∷ [] ≡ map as_host (p.spans ++ taken ∷ []) =
     ap (λ (xs : List Span). xs ++ t ∷ []) (sym h.serve) ∙ ap (λ (x : Span). map as_host p.spans ++ x ∷ []) is ∙ sym (map-append as_host p.spans (taken ∷ [])) in
     rw (some_frames, at_place) (leaves_so (with_span t.first frames p) new (spans ++ t ∷ []) (Counts (first_byte t.first))
@@ -96,7 +96,7 @@ pub take_missing : (frames : ℕ) (m : Contents) (spans : List Span) → HasTick
 take_missing frames m spans h some full =
     let p = host_memory m spans in
     let some_frames : eqb frames 0 ≡ false = false_from_ne_true _ (λ e. let z = eqb-true frames 0 e in omega arith) in
-    let no_place : place p.spans frames ≡ None = place_missing m.marks p.spans frames h.stands.marks some full in
+    let no_place : place p.spans frames 1 ≡ None = place_missing m.marks p.spans frames 1 h.stands.marks some full in
     rw (some_frames, no_place) (unchanged m spans (Refused NoRoom) h)
 
 -- ---- giving back

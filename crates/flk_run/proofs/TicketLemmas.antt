@@ -7,7 +7,7 @@ use Rattle.std.proofs.lemmas.List.Folds.{find_at}
 use Rattle.region_pool.specs.declared.mark.Mark.{Mark}
 use Rattle.region_pool.specs.Spans.{Span, Holds, IsDisjoint}
 use Rattle.machine_memory.specs.Contents.{Contents, first_byte}
-use Rattle.flk_run.specs.HostMemory.{HostSpan, starts_at}
+use Rattle.machine_memory.specs.HostMemory.{HostSpan, starts_at}
 use Rattle.flk_run.specs.Parts.{as_host, AreApart, HoldsSpans}
 use Rattle.flk_run.specs.Taking.{Took}
 

@@ -13,7 +13,7 @@ use Rattle.flk_run.specs.declared.answers.Refusal.{Refusal}
 use Rattle.flk_run.specs.declared.answers.Refusal.TheVariants.{NoRegister, NoRoom, NoSpan, NoTaken, NoBlocked, PowerLost}
 use Rattle.flk_run.specs.declared.disk.SimDisk.{SimDisk}
 use Rattle.flk_run.specs.Answers.{Answer, Quiet, Done, Counts, Shows, Refused, line_of}
-use Rattle.flk_run.specs.HostMemory.{HostMemory, HostSpan, place, starts_at, are_taken, are_open, with_span, without_span, with_bytes}
+use Rattle.machine_memory.specs.HostMemory.{HostMemory, HostSpan, place, starts_at, are_taken, are_open, with_span, without_span, with_bytes}
 use Rattle.flk_run.specs.Platform.{Around, Platform, bound, with_memory, powered}
 use Rattle.flk_run.specs.Tasks.{Task, Rest, Refuse, Extend, Read, Bind, Show, BindImage, Take, Give, Poke, Peek, Dma, task_of}
 
@@ -26,7 +26,7 @@ taken_at (Some first) frames m = (with_span first frames m, Counts (first_byte f
 
 -- so many frames taken; of none there is no span
 abbrev pub span_taken : ℕ → HostMemory → HostMemory × Answer
-span_taken frames m = if frames == 0 then (m, Refused NoRoom) else taken_at (place m.spans frames) frames m
+span_taken frames m = if frames == 0 then (m, Refused NoRoom) else taken_at (place m.spans frames 1) frames m
 
 -- a span given back, where there is one
 abbrev pub given_back : Option HostSpan → HostMemory → HostMemory × Answer

@@ -13,7 +13,7 @@ use Rattle.machine_memory.specs.Contents.{Contents, frame_count}
 use Rattle.seal_device.specs.Digests.{DigestDevice}
 use Rattle.script_text.specs.Variables.{Table}
 use Rattle.flk_run.specs.declared.disk.SimDisk.{SimDisk}
-use Rattle.flk_run.specs.HostMemory.{HostMemory, HostSpan, is_taken}
+use Rattle.machine_memory.specs.HostMemory.{HostMemory, HostSpan, is_taken}
 use Rattle.flk_run.specs.Platform.{DigestPlatform}
 
 -- the hardware of a board: its device, its memory and its fuse

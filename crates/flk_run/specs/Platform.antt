@@ -9,7 +9,7 @@ use Rattle.seal_device.specs.Agreement.{digested}
 use Rattle.script_text.specs.Variables.{Table}
 use Rattle.machine_memory.specs.Contents.{zero_bytes}
 use Rattle.flk_run.specs.declared.disk.SimDisk.{SimDisk}
-use Rattle.flk_run.specs.HostMemory.{HostMemory, blank_memory}
+use Rattle.machine_memory.specs.HostMemory.{HostMemory, blank_memory}
 
 -- what is around the device, and the same on every platform: memory with the host's spans, and the values of the names
 -- that the script bound

@@ -1,5 +1,6 @@
--- Memory as the platform has it: its bytes, and the spans of frames that the host took. No mark and no exclusion bit is among it.
-use Rattle.std.specs.Prelude.{ℕ, ◌+◌, ◌==◌, ◌&&◌, not, nat_le, nat_lt, Bool, List, [], ◌∷◌, ◌++◌, filter, find, replicate, Option}
+-- Memory as its users see it: its bytes, and the spans of frames that the host took. No mark and no exclusion bit is
+-- among it.
+use Rattle.std.specs.Prelude.{ℕ, ◌+◌, ◌%◌, ◌==◌, ◌&&◌, not, nat_le, nat_lt, Bool, List, [], ◌∷◌, ◌++◌, filter, find, replicate, Option}
 use Rattle.std.specs.List.{list_all, list_any, range_with_len}
 use Rattle.machine_memory.specs.Contents.{frame_count, first_byte, frame_of, zero_bytes}
 use Rattle.machine_memory.specs.Writes.{written}
@@ -22,13 +23,15 @@ has_frame frame span = nat_le span.first frame && nat_lt frame (span.first + spa
 abbrev pub is_taken : List HostSpan → ℕ → Bool
 is_taken spans frame = list_any (has_frame frame) spans
 
--- so many frames from one on lie in memory and in no span
-abbrev pub fits : List HostSpan → ℕ → ℕ → Bool
-fits spans frames first = nat_le (first + frames) frame_count && list_all (λ frame. not (is_taken spans frame)) (range_with_len first frames)
+-- a span of so many frames fits there: the frame is a multiple of the alignment, and so many from it on lie in memory and
+-- in no span
+abbrev pub fits : List HostSpan → ℕ → ℕ → ℕ → Bool
+fits spans frames align first =
+    (first % align == 0) && nat_le (first + frames) frame_count && list_all (λ frame. not (is_taken spans frame)) (range_with_len first frames)
 
--- where a span of so many frames goes: to the first frame that begins as many free ones
-unfoldable pub place : List HostSpan → ℕ → Option ℕ
-place spans frames = find (fits spans frames) (range_with_len 0 frame_count)
+-- where a span of so many frames goes: to the lowest frame that it fits at
+unfoldable pub place : List HostSpan → ℕ → ℕ → Option ℕ
+place spans frames align = find (fits spans frames align) (range_with_len 0 frame_count)
 
 -- the span starts at this address
 abbrev pub starts_at : ℕ → HostSpan → Bool
