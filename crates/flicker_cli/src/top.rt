@@ -1,14 +1,9 @@
 // The top call.
 ghost use Rattle.std.specs.Prelude.{◌≡◌, ◌⊎◌, ◌≤◌, ℕ, List, [], map, true, Some, None, string_bytes};
-ghost use Rattle.std.specs.FinMap.{empty};
 ghost use Rattle.flk_base.specs.Causes.{Rose};
 ghost use Rattle.flk_base.specs.Streams.{intake, output};
 ghost use Rattle.flk_base.specs.RunEnds.{HasCauses, mapped};
-ghost use Rattle.seal_device.specs.Digests.{digests};
-ghost use Rattle.seal_device.specs.Lists.{lists};
-ghost use Rattle.flk_run.specs.Agreement.{AgreesByLists};
-ghost use Rattle.flk_run.specs.Parts.{platform_of};
-ghost use Rattle.flk_run.specs.Platform.{ListPlatform, platform_digested};
+ghost use Rattle.flk_run.specs.Parts.{HoldsSpans};
 ghost use Rattle.flicker_cli.specs.declared.words.Command.{Command as CommandView};
 ghost use Rattle.flicker_cli.specs.Commands.{command};
 ghost use Rattle.flicker_cli.specs.Calls.{Answered, CallRan, ScriptRan};
@@ -21,7 +16,7 @@ use crate::messages::{MESSAGE_ROOM, report, status_after};
 use crate::words::{Command, command_of};
 use flk_base::{Bytes, RunEnd, Sink, Source};
 use flk_filters::{BadInput, run_filter};
-use flk_run::{Board, Runner, ScriptFault, SimDisk, run_script};
+use flk_run::{Board, Runner, ScriptFault, SimDisk, Spans, run_script};
 use std::alloc::Global;
 
 /// Does what the words of the command line say, over this source and these sinks, on this board and disk.
@@ -35,14 +30,9 @@ pub fn flicker<S: Source, K: Sink, E: Sink>(
     disk: SimDisk,
 ) -> Finished
     // How the call ended: what was taken, done and written, by which cause, with which message and status.
-    ensures answered { Answered digests (command (map string_bytes words.now)) result.status
+    ensures answered { Answered (command (map string_bytes words.now)) result.status
         (intake S.Source source.old source.new) (output K.Sink out.old out.new) (output E.Sink err.old err.new)
-        (platform_of board disk empty) (platform_of result.board result.disk empty) }
-    // The same by lists, from each platform of lists that stands for this one of digests.
-    ensures lists { (p : ListPlatform) → platform_digested p ≡ platform_of board disk empty →
-        AgreesByLists (Answered lists (command (map string_bytes words.now)) result.status
-        (intake S.Source source.old source.new) (output K.Sink out.old out.new) (output E.Sink err.old err.new))
-        p (platform_of result.board result.disk empty) }
+        (record { board = board; disk = disk }) (record { board = result.board; disk = result.disk }) result.spans }
 
     // Status 0, 1 or 2: the end is that of the words and the bytes taken, whatever follows these.
     ensures text { result.status ≤ 2 → IsText (command (map string_bytes words.now)) result.status
@@ -63,14 +53,23 @@ pub fn flicker<S: Source, K: Sink, E: Sink>(
         → (content : List ℕ) → S.left source.old ≡ Some content → end_on (Some task) content true ≡ RunEnd.Done
         → (result.status ≡ 0) ⊎ (result.status ≡ 5) ⊎ Rose (S.fault_count source.old) (S.fault_count source.new)
         ⊎ Rose (K.fault_count out.old) (K.fault_count out.new) ⊎ Rose (E.fault_count err.old) (E.fault_count err.new) }
+
+    // The board's memory holds the spans, so `exit` may be called.
+    ensures held { HoldsSpans result.board.memory.marks result.spans }
 {
     let mut room = Bytes::new(alloc);
-    let Ended { end, board, disk } = carry_out(alloc, words, &mut room, source, out, board, disk);
+    let Ended {
+        end,
+        board,
+        disk,
+        spans,
+    } = carry_out(alloc, words, &mut room, source, out, board, disk);
     let cut = report(end, &mut room, err);
     Finished {
         status: status_after(end, cut),
         board,
         disk,
+        spans,
     }
 }
 
@@ -79,6 +78,7 @@ struct Ended {
     end: RunEnd<Fault>,
     board: Board,
     disk: SimDisk,
+    spans: Spans,
 }
 
 // Does what the words say. Room for a message that needs some is made before anything is begun.
@@ -92,37 +92,44 @@ fn carry_out<S: Source, K: Sink>(
     disk: SimDisk,
 ) -> Ended
     requires { room.old.bytes ≡ [] }
-    ensures ran { CallRan digests (command (map string_bytes words.now)) result.end
+    ensures ran { CallRan (command (map string_bytes words.now)) result.end
         (intake S.Source source.old source.new) (output K.Sink out.old out.new)
-        (platform_of board disk empty) (platform_of result.board result.disk empty) }
+        (record { board = board; disk = disk }) (record { board = result.board; disk = result.disk }) result.spans }
     ensures caused { HasCauses result.end (intake S.Source source.old source.new) (output K.Sink out.old out.new) }
+    ensures held { HoldsSpans result.board.memory.marks result.spans }
     ensures room { wants_room result.end ≡ true → (room.new.bytes ≡ []) × (64 ≤ room.new.spare) }
 {
     let Some(command) = command_of(words) else {
-        return as_it_was(RunEnd::Bad(Fault::Words), board, disk);
+        return as_it_was(alloc, RunEnd::Bad(Fault::Words), board, disk);
     };
     if room.reserve(MESSAGE_ROOM).is_err() {
-        return as_it_was(RunEnd::NoMemory, board, disk);
+        return as_it_was(alloc, RunEnd::NoMemory, board, disk);
     }
     match command {
         Command::Run => return script(alloc, source, out, board, disk),
         Command::Filter(filter) => {
             let end = run_filter(alloc, filter, source, out);
-            return as_it_was(of_filter(end), board, disk);
+            return as_it_was(alloc, of_filter(end), board, disk);
         }
     }
 }
 
 // The end of a call that leaves the board and the disk as they were.
-fn as_it_was(end: RunEnd<Fault>, board: Board, disk: SimDisk) -> Ended
+fn as_it_was(alloc: Global, end: RunEnd<Fault>, board: Board, disk: SimDisk) -> Ended
     ensures end { result.end ≡ end }
     ensures board { result.board ≡ board }
     ensures disk { result.disk ≡ disk }
+    ensures spans { result.spans ≡ [] }
 {
-    Ended { end, board, disk }
+    Ended {
+        end,
+        board,
+        disk,
+        spans: Spans::none(alloc),
+    }
 }
 
-// Runs a script, with no name bound.
+// Runs a script, with no name bound and no span taken.
 fn script<S: Source, K: Sink>(
     alloc: Global,
     source: &mut S,
@@ -130,16 +137,18 @@ fn script<S: Source, K: Sink>(
     board: Board,
     disk: SimDisk,
 ) -> Ended
-    ensures ran { ScriptRan digests result.end (intake S.Source source.old source.new) (output K.Sink out.old out.new)
-        (platform_of board disk empty) (platform_of result.board result.disk empty) }
+    ensures ran { ScriptRan result.end (intake S.Source source.old source.new) (output K.Sink out.old out.new)
+        (record { board = board; disk = disk }) (record { board = result.board; disk = result.disk }) result.spans }
     ensures caused { HasCauses result.end (intake S.Source source.old source.new) (output K.Sink out.old out.new) }
+    ensures held { HoldsSpans result.board.memory.marks result.spans }
 {
     let (runner, end) = run_script(alloc, source, out, Runner::new(alloc, board, disk));
-    let (board, disk) = runner.finish();
+    let (board, disk, spans) = runner.finish();
     Ended {
         end: of_script(end),
         board,
         disk,
+        spans,
     }
 }
 

@@ -1,5 +1,5 @@
 -- What the marks of frames tell of the platform's spans, and the other way round.
-use Rattle.std.proofs.Common.{◌≡◌, ℕ, zero, suc, ◌+◌, ◌%◌, ◌<◌, ◌≤◌, Bool, true, false, not, ◌&&◌, eqb, leb, ltb, List, [], ◌∷◌, length, take, drop, map, find, get_or, ◌==◌, refl, sym, ap, subst, ◌∙◌, inl, inr, arith, Some, None, drop-cons}
+use Rattle.std.proofs.Common.{◌≡◌, ℕ, zero, suc, ◌+◌, ◌%◌, ◌<◌, ◌≤◌, Bool, true, false, not, ◌&&◌, eqb, leb, ltb, List, [], ◌∷◌, length, take, drop, map, find, get_or, refl, sym, ap, subst, ◌∙◌, inl, inr, arith, Some, None, drop-cons}
 use Rattle.std.specs.List.{AllByRecursion, list_all, range_with_len}
 use Rattle.std.proofs.lemmas.Bool.{cases_Bool, cases_lt, or_cases, or_left, or_right, and_parts, and_from, both_ways, false_from_ne_true, leb-true, ltb-true, le-leb, lt-ltb, eqb-true, eq-eqb}
 use Rattle.std.proofs.lemmas.List.{get_or-map, get_or_past, length-map}
@@ -15,7 +15,7 @@ use Rattle.region_pool.proofs.PlaceLemmas.{place-lowest, place-none}
 use Rattle.machine_memory.specs.Contents.{Contents, frame_count, first_byte, frame_of}
 use Rattle.machine_memory.specs.Spans.{LiesIn, LiesInSpan}
 use Rattle.machine_memory.specs.DeviceWrites.{is_open, may_write}
-use Rattle.machine_memory.specs.HostMemory.{HostSpan, HostMemory, has_frame, is_taken, fits, place, has_bytes, are_taken, are_open}
+use Rattle.flk_run.specs.HostMemory.{HostSpan, HostMemory, has_frame, is_taken, fits, place, has_bytes, are_taken, are_open}
 use Rattle.flk_run.specs.Parts.{as_host, MarksAre, MemoryStands}
 
 -- ---- frames
@@ -66,22 +66,18 @@ free_run marks spans h (suc n) first fit =
     ∙ ap (λ b. b && list_all is_free (take n (drop (first + 1) marks))) (free_here marks spans first h (omega arith))
     ∙ ap (λ b. not (is_taken spans first) && b) (free_run marks spans h n (first + 1) (omega arith))
 
--- what is behind a test that fails does not matter
-never : (a b c : Bool) → (a && false && b) ≡ (a && false && c)
-never true b c = refl
-never false b c = refl
-
-fits_is_place : (marks : List Mark) (spans : List HostSpan) (n align first : ℕ) → MarksAre marks spans → 1 ≤ n → fits spans n align first ≡ is_place marks n align first
-fits_is_place marks spans n align first h some = elim (cases_lt frame_count (first + n)) [
+fits_is_place : (marks : List Mark) (spans : List HostSpan) (n first : ℕ) → MarksAre marks spans → 1 ≤ n → fits spans n first ≡ is_place marks n 1 first
+fits_is_place marks spans n first h some = elim (cases_lt frame_count (first + n)) [
   | inl past ↦
       let out : leb (first + n) frame_count ≡ false = false_from_ne_true _ (λ e. let l = leb-true (first + n) frame_count e in omega arith) in
       let long : eqb (length (marks_at marks first n)) n ≡ false = false_from_ne_true _
       (λ e. let w = within-marks_at marks first n some (eqb-true (length (marks_at marks first n)) n e) in omega (arith, h.count)) in
-      rw (out, long) (never (first % align == 0) _ _)
+      rw (out, long) (grind arith)
   | inr inside ↦
       let fit : leb (first + n) frame_count ≡ true = le-leb (first + n) frame_count inside in
+      let one : eqb (first % 1) 0 ≡ true = eq-eqb (first % 1) 0 (omega arith) in
       let long : eqb (length (marks_at marks first n)) n ≡ true = eq-eqb _ n (length-marks_at marks first n (omega (arith, h.count))) in
-      rw (fit, long) (ap (λ b. (first % align == 0) && true && b) (sym (free_run marks spans h n first inside)))
+      rw (fit, one, long) (sym (free_run marks spans h n first inside))
 ]
 
 find_same : (p q : ℕ → Bool) → ((k : ℕ) → p k ≡ q k) → (xs : List ℕ) → find p xs ≡ find q xs
@@ -89,17 +85,17 @@ find_same p q same [] = refl
 find_same p q same (x ∷ xs) = rw (same x, find_same p q same xs) refl
 
 -- a span goes where the pool's lowest place is
-pub place_agrees : (marks : List Mark) (spans : List HostSpan) (n align : ℕ) → MarksAre marks spans → 1 ≤ n → place spans n align ≡ pool_place marks n align
+pub place_agrees : (marks : List Mark) (spans : List HostSpan) (n : ℕ) → MarksAre marks spans → 1 ≤ n → place spans n ≡ pool_place marks n 1
 unfolding place pool_place
-place_agrees marks spans n align h some =
-    find_same (fits spans n align) (is_place marks n align) (λ first. fits_is_place marks spans n align first h some) (range_with_len 0 frame_count)
-    ∙ ap (λ count. find (is_place marks n align) (range_with_len 0 count)) (sym h.count)
+place_agrees marks spans n h some =
+    find_same (fits spans n) (is_place marks n 1) (λ first. fits_is_place marks spans n first h some) (range_with_len 0 frame_count)
+    ∙ ap (λ count. find (is_place marks n 1) (range_with_len 0 count)) (sym h.count)
 
-pub place_found : (marks : List Mark) (spans : List HostSpan) (n align first : ℕ) → MarksAre marks spans → 1 ≤ n → IsLowestPlace marks n align first → place spans n align ≡ Some first
-place_found marks spans n align first h some lowest = place_agrees marks spans n align h some ∙ place-lowest marks n align first some lowest
+pub place_found : (marks : List Mark) (spans : List HostSpan) (n first : ℕ) → MarksAre marks spans → 1 ≤ n → IsLowestPlace marks n 1 first → place spans n ≡ Some first
+place_found marks spans n first h some lowest = place_agrees marks spans n h some ∙ place-lowest marks n 1 first some lowest
 
-pub place_missing : (marks : List Mark) (spans : List HostSpan) (n align : ℕ) → MarksAre marks spans → 1 ≤ n → HasNoPlace marks n align → place spans n align ≡ None
-place_missing marks spans n align h some none = place_agrees marks spans n align h some ∙ place-none marks n align some none
+pub place_missing : (marks : List Mark) (spans : List HostSpan) (n : ℕ) → MarksAre marks spans → 1 ≤ n → HasNoPlace marks n 1 → place spans n ≡ None
+place_missing marks spans n h some none = place_agrees marks spans n h some ∙ place-none marks n 1 some none
 
 -- ---- bytes of one span
 

@@ -14,7 +14,7 @@ use Rattle.region_pool.proofs.Search.{within-place}
 use Rattle.machine_memory.specs.Writes.{written}
 use Rattle.machine_memory.specs.Contents.{Contents, first_byte, frame_count, blank}
 use Rattle.machine_memory.specs.Spans.{after_give}
-use Rattle.machine_memory.specs.HostMemory.{HostSpan, HostMemory, blank_memory, has_frame, is_taken, starts_at, with_span, without_span}
+use Rattle.flk_run.specs.HostMemory.{HostSpan, HostMemory, blank_memory, has_frame, is_taken, starts_at, with_span, without_span}
 use Rattle.flk_run.specs.Parts.{as_host, AreApart, HoldsSpans, MarksAre, MemoryStands}
 use Rattle.flk_run.specs.Taking.{Took}
 use Rattle.flk_run.proofs.MarkLemmas.{frame_from_test, test_from_frame}

@@ -1,18 +1,70 @@
--- The tasks of events, and which of them take memory.
-use Rattle.std.proofs.Common.{◌≡◌, ℕ, ◌≤◌, true, false, List, [], length, refl, sym, ◌∙◌, arith}
-use Rattle.std.specs.Prelude.{◌∷◌, ◌==◌, nat_lt, Option, Some, None, Result, Ok, Err, IsOk, ◌↔◌}
+-- What an extend does to the values of chains.
+use Rattle.std.proofs.Common.{◌≡◌, ℕ, ◌<◌, ◌≤◌, true, false, List, [], ◌++◌, length, map, refl, sym, ap, subst, ◌∙◌, arith}
+use Rattle.std.specs.Prelude.{◌∷◌, ◌==◌, slice_index_or, slice_set, nat_lt, Option, Some, None, Result, Ok, Err, IsOk, ◌↔◌}
 use Rattle.slb_image.specs.declared.fault.ImageFault.{ImageFault}
+use Rattle.std.proofs.lemmas.List.{map-set, get_or-map, length-set}
 use Rattle.std.proofs.lemmas.Bool.Decides.{nat_tests}
+use Rattle.tpm_state.specs.Chain.{Chain, ◌▷◌, extended, value, chain_of, with_text, launch_chain, register_count}
+use Rattle.region_pool.specs.Spans.{Span}
+use Rattle.machine_memory.specs.Contents.{Contents}
+use Rattle.script_text.specs.Variables.{Table}
+use Rattle.flk_run.specs.declared.board.SimDisk.{SimDisk}
+use Rattle.flk_run.specs.Platform.{Platform}
+use Rattle.script_text.specs.Grammar.{Request}
 use Rattle.script_text.specs.Expressions.{Term}
 use Rattle.script_text.specs.Values.{longest_value, value_of}
-use Rattle.script_text.specs.Variables.{Table}
 use Rattle.script_text.specs.SeenExpressions.{expr_fault}
 use Rattle.script_text.specs.declared.value.ExprError.{ExprError}
 use Rattle.script_text.specs.declared.value.ExprError.TheVariants.{Fault, NoMemory}
 use Rattle.script_text.specs.declared.value.ExprFault.{ExprFault}
 use Rattle.flk_base.specs.Checks.{GivesFaultFirst}
-use Rattle.flk_run.specs.Tasks.{Task, Rest, Refuse, Extend, Read, Bind, Show, BindImage, Take, Give, Poke, Peek, Dma, TakesMemory, given, imaged, peeked}
-use Rattle.flk_run.specs.Seen.{binds, takes}
+use Rattle.flk_run.specs.Answers.{Done, line_of}
+use Rattle.flk_run.specs.Tasks.{Task, Rest, Refuse, Extend, Read, Bind, Show, BindImage, Take, Give, Poke, Peek, Dma, TakesMemory, given, imaged, peeked, task_of}
+use Rattle.flk_run.specs.Events.{host_front, extended_by_host, done, step}
+use Rattle.flk_run.specs.Parts.{BoardParts, Experiment, MemoryStands, IsAt, experiment}
+use Rattle.flk_run.specs.Seen.{StepDone, binds, takes}
+
+-- an extend of the values is one of the chains
+extended_chains : (chains : List Chain) (r : ℕ) (text : List ℕ) → r < length chains
+    → slice_set (map value chains) r (extended (slice_index_or (map value chains) r []) text) ≡ map value (with_text chains r text)
+extended_chains chains r text h =
+    let at : slice_index_or (map value chains) r [] ≡ value (chain_of chains r) = get_or-map value chains r launch_chain [] h in
+    ap (λ v. slice_set (map value chains) r (extended v text)) at ∙ sym (map-set value chains r (chain_of chains r ▷ text))
+
+-- a board whose register was extended holds the chains of which that one has grown
+pub stands_extended : (p : Platform) (board new : BoardParts) (disk : SimDisk) (table : Table) (spans : List Span) (r : ℕ) (text : List ℕ) → IsAt p (experiment board disk table spans) → r < register_count → new.memory ≡ board.memory
+    → new.registers ≡ slice_set board.registers r (extended (slice_index_or board.registers r []) (host_front ++ text))
+    → IsAt (record p { chains = with_text p.chains r (host_front ++ text) }) (experiment new disk table spans)
+stands_extended p board new disk table spans r text s few same n =
+    let at : r < length p.chains = omega (arith, s.stands.count) in
+    record {
+      stands = record {
+        count = length-set p.chains r _ ∙ s.stands.count;
+        registers =
+            n
+            ∙ ap (λ vs. slice_set vs r (extended (slice_index_or vs r []) (host_front ++ text))) s.stands.registers
+            ∙ extended_chains p.chains r (host_front ++ text) at;
+        memory = subst (λ (c : Contents). MemoryStands p.memory c) (sym same) s.stands.memory;
+      };
+      variables = s.variables;
+      spans = s.spans;
+    }
+
+-- the step of a host's extend
+pub extend_done : (n : ℕ) (p : Platform) (board new : BoardParts) (disk : SimDisk) (table : Table) (spans : List Span) (r : ℕ) (text out out' : List ℕ) → IsAt p (experiment board disk table spans) → (register_count ≤ r → ⊥) → new.memory ≡ board.memory
+    → new.registers ≡ slice_set board.registers r (extended (slice_index_or board.registers r []) (host_front ++ text)) → out' ≡ out ++ line_of n Done
+    → StepDone n (extended_by_host r text p) (experiment new disk table spans) out out'
+extend_done n p board new disk table spans r text out out' s few same grown written =
+    let at : r < register_count = omega arith in
+    let is : nat_lt r register_count ≡ true = grind (arith, nat_tests, at) in
+    rw is (record { at = stands_extended p board new disk table spans r text s at same grown; written = written })
+
+-- an event is done where the task is done that it comes to
+pub event_done : (n : ℕ) (request : Request) (p : Platform) (task : Task) (old new : Experiment) (out made out' : List ℕ) → IsAt p old → task ≡ task_of request old.variables → made ≡ out
+    → StepDone n (done task p) new made out' → StepDone n (step request p) new out out'
+event_done n request p task old new out made out' s is same d =
+    let e : task ≡ task_of request p.variables = is ∙ ap (task_of request) s.variables in
+    subst (λ (t : Task). StepDone n (done t p) new out out') e (subst (λ (xs : List ℕ). StepDone n (done task p) new xs out') same d)
 
 -- values for which no fault is answered have none
 pub has_image : {T E : Type 0} (view : ImageFault → E) (r : Result T E) (made : T) (fault : Option ImageFault) → r ≡ Ok made

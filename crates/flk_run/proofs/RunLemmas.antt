@@ -1,4 +1,4 @@
--- How far a run came, line by line, and what its ends say. The run began at platform `from`, and is at
+-- How far a run came, line by line, and what its ends say. The run began with experiment `from`, and is at
 -- `at`, where it has written to `b` of what out held, `a`.
 use Rattle.std.proofs.Common.{◌≡◌, ◌≢◌, inl, inr, ℕ, ◌+◌, ◌-◌, ◌<◌, ◌≤◌, Bool, true, false, List, [], ◌∷◌, ◌++◌, length, refl, sym, ap, subst, ◌∙◌, append_assoc, append-nil, length-append, arith}
 use Rattle.std.specs.Prelude.{Option, Some, None, Result, Ok, Err, nat_lt}
@@ -22,69 +22,67 @@ use Rattle.script_text.specs.declared.line.LineFault.{LineFault}
 use Rattle.script_text.specs.declared.line.LineFault.TheVariants as fault
 use Rattle.script_text.proofs.LineLemmas.{long_first, some_first}
 use Rattle.flk_run.specs.declared.run.ScriptFault.{ScriptFault}
-use Rattle.seal_device.specs.Digests.{digests}
-use Rattle.flk_run.specs.Platform.{DigestPlatform}
+use Rattle.flk_run.specs.Platform.{Platform}
 use Rattle.flk_run.specs.Events.{after, transcript_line, transcript, after_all}
+use Rattle.flk_run.specs.Parts.{Experiment, IsAt}
 use Rattle.flk_run.specs.Script.{good_requests, first_bad, AsksFor, MayRunOut}
-use Rattle.flk_run.specs.Runs.{IsNearLine, bad_in, Written, LineCut, Reached, AllDone, ReadShort, CutShort, Paused, Ran}
+use Rattle.flk_run.specs.Runs.{IsNearLine, bad_in, Written, AllWritten, LineCut, Reached, AllDone, ReadShort, CutShort, Paused, Ran}
 use Rattle.flk_run.specs.LineRuns.{EventDone, EventCut, NotBegun, LineRan}
 use Rattle.flk_run.proofs.ScriptLemmas.{length-good, bad_behind, good_behind, one_more, transcript-append, after_all-append, judged_good, judged_long, judged_many}
 use Rattle.flk_base.proofs.TakenLemmas.{the_end, says_end, says_all, seen_end, taken_then}
 use Rattle.flk_run.proofs.SplitLemmas.{Split, Stepped, Goes, nothing_held, split_begins, split_line, split_all, given_first, more_goes, open_rest}
 
 -- the first k lines are good, done and written
-pub record Progress (k : ℕ) (held : Held) (source source' a b : Option (List ℕ)) (from at : DigestPlatform) : Type 0 where
+pub record Progress (k : ℕ) (held : Held) (source source' a b : Option (List ℕ)) (from at : Experiment) : Type 0 where
   pub lines : List (List ℕ)
   pub taken : List ℕ
   pub consumed : Consumes source source' taken
   pub split : Split k lines taken held
   pub good : first_bad 1 lines ≡ None
-  pub done : Written digests (good_requests 1 lines) a b from at
+  pub done : AllWritten (good_requests 1 lines) a b from at
 
-pub begins : (source a : Option (List ℕ)) (from : DigestPlatform) → Progress 0 nothing_held source source a a from from
+pub begins : (source a : Option (List ℕ)) (from : Experiment) → Progress 0 nothing_held source source a a from from
 begins source a from = record {
   lines = [];
   taken = [];
   consumed = Consumes-nil source;
   split = split_begins;
   good = refl;
-  done = record { written = Appends-nil a; at = refl };
+  done = λ p s. record { written = Appends-nil a; at = s };
 }
 
 -- ---- one line more
 
 -- a line that was done asks for a request
-done_asks : (n : ℕ) (text : List ℕ) (line : Result Request BadLine) (b c : Option (List ℕ)) (mid at : DigestPlatform) → LineRan run.Done n text line b c mid at → (request : Request) × (line ≡ Ok request) × EventDone n request b c mid at
+done_asks : (n : ℕ) (text : List ℕ) (line : Result Request BadLine) (b c : Option (List ℕ)) (mid at : Experiment) → LineRan run.Done n text line b c mid at → (request : Request) × (line ≡ Ok request) × ((p : Platform) → IsAt p mid → EventDone n request p b c at)
 done_asks n text (Ok request) b c mid at done = (request, refl, done)
 done_asks n text (Err bad) b c mid at done = absurd done
 
-cut_asks : (n : ℕ) (text : List ℕ) (line : Result Request BadLine) (put : PutFault) (b c : Option (List ℕ)) (mid at : DigestPlatform) → LineRan (run.Cut put) n text line b c mid at → (request : Request) × (line ≡ Ok request) × EventCut n request b c mid at
+cut_asks : (n : ℕ) (text : List ℕ) (line : Result Request BadLine) (put : PutFault) (b c : Option (List ℕ)) (mid at : Experiment) → LineRan (run.Cut put) n text line b c mid at → (request : Request) × (line ≡ Ok request) × ((p : Platform) → IsAt p mid → EventCut n request p b c at)
 cut_asks n text (Ok request) put b c mid at cut = (request, refl, cut)
 cut_asks n text (Err bad) put b c mid at cut = absurd cut
 
-bad_asks : (n : ℕ) (text : List ℕ) (line : Result Request BadLine) (first : ScriptFault) (b c : Option (List ℕ)) (mid at : DigestPlatform) → LineRan (run.Bad first) n text line b c mid at → (bad : BadLine) × (line ≡ Err bad) × (first ≡ record { line = n; bad = bad }) × NotBegun b c mid at
+bad_asks : (n : ℕ) (text : List ℕ) (line : Result Request BadLine) (first : ScriptFault) (b c : Option (List ℕ)) (mid at : Experiment) → LineRan (run.Bad first) n text line b c mid at → (bad : BadLine) × (line ≡ Err bad) × (first ≡ record { line = n; bad = bad }) × NotBegun b c mid at
 bad_asks n text (Ok request) first b c mid at ran = absurd ran
 bad_asks n text (Err bad) first b c mid at ran = (bad, refl, ran.0, ran.1)
 
 -- a request more is done and written
-written_more : (n : ℕ) (before : List Request) (request : Request) (a b c : Option (List ℕ)) (from mid new : DigestPlatform) → length before + 1 ≡ n
-    → Written digests before a b from mid → EventDone n request b c mid new → Written digests (before ++ request ∷ []) a c from new
-written_more n before request a b c from mid new count w d =
-    let there = after_all digests before from in
-    let here = transcript_line digests n request there in
+written_more : (n : ℕ) (before : List Request) (request : Request) (p : Platform) (a b c : Option (List ℕ)) (mid new : Experiment) → length before + 1 ≡ n
+    → Written before p a b mid → EventDone n request (after_all before p) b c new → Written (before ++ request ∷ []) p a c new
+written_more n before request p a b c mid new count w d =
+    let here = transcript_line n request (after_all before p) in
     let number : 1 + length before ≡ n = omega arith in
-    let whole : transcript digests 1 (before ++ request ∷ []) from ≡ transcript digests 1 before from ++ here =
-    transcript-append digests 1 before (request ∷ []) from
-    ∙ ap (λ m. transcript digests 1 before from ++ transcript digests m (request ∷ []) there) number
-    ∙ ap (λ t. transcript digests 1 before from ++ t) (append-nil here) in
-    let line : Appends b c here = subst (λ (q : DigestPlatform). Appends b c (transcript_line digests n request q)) w.at d.written in
+    let whole : transcript 1 (before ++ request ∷ []) p ≡ transcript 1 before p ++ here =
+    transcript-append 1 before (request ∷ []) p
+    ∙ ap (λ m. transcript 1 before p ++ transcript m (request ∷ []) (after_all before p)) number
+    ∙ ap (λ t. transcript 1 before p ++ t) (append-nil here) in
     record {
-      written = subst (λ t. Appends a c t) (sym whole) (Appends-trans a b c (transcript digests 1 before from) here w.written line);
-      at = d.at ∙ ap (after digests request) w.at ∙ sym (after_all-append digests before (request ∷ []) from);
+      written = subst (λ t. Appends a c t) (sym whole) (Appends-trans a b c (transcript 1 before p) here w.written d.written);
+      at = subst (λ q. IsAt q new) (sym (after_all-append before (request ∷ []) p)) d.at;
     }
 
 -- a line was given, done and written
-pub line_done : (k : ℕ) (old new : Held) (s t u a b c : Option (List ℕ)) (from mid at : DigestPlatform)
+pub line_done : (k : ℕ) (old new : Held) (s t u a b c : Option (List ℕ)) (from mid at : Experiment)
     → Progress k old s t a b from mid → Stepped line.Line old new t u → LineRan run.Done (k + 1) new.line (judged (k + 1) new.line) b c mid at → Progress (k + 1) new s u a c from at
 line_done k old new s t u a b c from mid at g step done =
     let ran = done_asks (k + 1) new.line (judged (k + 1) new.line) b c mid at done in
@@ -96,14 +94,17 @@ line_done k old new s t u a b c from mid at g step done =
       consumed = Consumes-trans s t u g.taken step.taken g.consumed step.consumed;
       split = split_line k g.lines g.taken old new t u g.split step;
       good = one_more k g.lines new.line ran.0 g.split.count g.good ran.1;
-      done = subst (λ rs. Written digests rs a c from at) (sym requests) (written_more (k + 1) (good_requests 1 g.lines) ran.0 a b c from mid at n g.done ran.2);
+      done = λ p h.
+          let w = g.done p h in
+          subst (λ rs. Written rs p a c at) (sym requests)
+          (written_more (k + 1) (good_requests 1 g.lines) ran.0 p a b c mid at n w (ran.2 (after_all (good_requests 1 g.lines) p) w.at));
     }
 
 -- ---- ends of the reader
 
 -- all was taken
-pub ends_all : (k : ℕ) (old : Held) (s t u a b : Option (List ℕ)) (taken : List ℕ) (from at : DigestPlatform)
-    → Progress k old s t a b from at → Consumes t u taken → IsAtEnd u → old.bytes ++ taken ≡ [] → (old.ended ≡ true → taken ≡ []) → AllDone digests s u a b from at None
+pub ends_all : (k : ℕ) (old : Held) (s t u a b : Option (List ℕ)) (taken : List ℕ) (from at : Experiment)
+    → Progress k old s t a b from at → Consumes t u taken → IsAtEnd u → old.bytes ++ taken ≡ [] → (old.ended ≡ true → taken ≡ []) → AllDone s u a b from at None
 ends_all k old s t u a b taken from at g consumed at_end none goes =
     let all = split_all k g.lines g.taken taken old true g.split (λ e. (goes e, refl)) in
     let lines : script_lines (g.taken ++ taken) true ≡ g.lines = all.0 ∙ ap (λ bs. g.lines ++ lines_from k bs true) none ∙ append-nil g.lines in
@@ -117,7 +118,7 @@ ends_all k old s t u a b taken from at g consumed at_end none goes =
         stays = λ more nothing. ap (λ m. bad_in ((g.taken ++ taken) ++ m) true) (nothing refl) ∙ ap (λ bs. bad_in bs true) (append-nil (g.taken ++ taken)) ∙ judged_so;
       };
       read = λ e. refl;
-      done = subst (λ ls. Written digests (good_requests 1 ls) a b from at) (sym lines) g.done;
+      done = subst (λ ls. AllWritten (good_requests 1 ls) a b from at) (sym lines) g.done;
       near = tt;
     }
 
@@ -148,10 +149,10 @@ still_some [] more some h = some refl
 still_some (c ∷ cs) more some h = cc
 
 -- the first line behind the good ones is bad, whatever follows
-ends_bad : (k : ℕ) (old new : Held) (s t u a b : Option (List ℕ)) (taken : List ℕ) (bad : BadLine) (from at : DigestPlatform)
+ends_bad : (k : ℕ) (old new : Held) (s t u a b : Option (List ℕ)) (taken : List ℕ) (bad : BadLine) (from at : Experiment)
     → (g : Progress k old s t a b from at) → Consumes t u taken → (old.ended ≡ true → (taken ≡ []) × (new.ended ≡ true)) → (new.ended ≡ true → IsAtEnd u)
     → ((more : List ℕ) (ended : Bool) → Goes new more ended → BadFirst (k + 1) bad (lines_from k ((old.bytes ++ taken) ++ more) ended))
-    → IsNearLine (k + 1) bad (g.taken ++ taken) → AllDone digests s u a b from at (Some (record { line = k + 1; bad = bad }))
+    → IsNearLine (k + 1) bad (g.taken ++ taken) → AllDone s u a b from at (Some (record { line = k + 1; bad = bad }))
 ends_bad k old new s t u a b taken bad from at g consumed goes at_end behind near =
     let ended = the_end new.ended u in
     let whole : (more : List ℕ) (e : Bool) → Goes new more e → BadBehindAny k g.lines bad (script_lines ((g.taken ++ taken) ++ more) e) = λ more e next.
@@ -170,14 +171,14 @@ ends_bad k old new s t u a b taken bad from at g consumed goes at_end behind nea
         stays = λ more nothing. (whole more true (λ e. (nothing (seen_end new.ended u e), refl))).first;
       };
       read = λ e. absurd (cc);
-      done = subst (λ rs. Written digests rs a b from at) (sym (ap (good_requests 1) (sym same) ∙ now.good)) g.done;
+      done = subst (λ rs. AllWritten rs a b from at) (sym (ap (good_requests 1) (sym same) ∙ now.good)) g.done;
       near = near;
     }
 
 -- a line that is too long
-pub ends_long : (k : ℕ) (old new : Held) (s t u a b : Option (List ℕ)) (from at : DigestPlatform) → k < most_lines
+pub ends_long : (k : ℕ) (old new : Held) (s t u a b : Option (List ℕ)) (from at : Experiment) → k < most_lines
     → Progress k old s t a b from at → Stepped line.Long old new t u → (new.ended ≡ true → IsAtEnd u) → length new.bytes ≤ longest_line + 1 + read_size
-    → AllDone digests s u a b from at (Some (record { line = k + 1; bad = Faulty fault.LongLine }))
+    → AllDone s u a b from at (Some (record { line = k + 1; bad = Faulty fault.LongLine }))
 ends_long k old new s t u a b from at few g step at_end near =
     let ended = the_end new.ended u in
     let all = split_all k g.lines g.taken step.taken old ended g.split (λ e. let w = step.goes e in (w.0, seen_end new.ended u w.1)) in
@@ -190,9 +191,9 @@ ends_long k old new s t u a b from at few g step at_end near =
     (rw (one, all.1) (omega (arith, ap length step.after.1)))
 
 -- one line too many
-pub ends_many : (k : ℕ) (old new : Held) (s t u a b : Option (List ℕ)) (taken : List ℕ) (from at : DigestPlatform) → k ≡ most_lines
+pub ends_many : (k : ℕ) (old new : Held) (s t u a b : Option (List ℕ)) (taken : List ℕ) (from at : Experiment) → k ≡ most_lines
     → Progress k old s t a b from at → Consumes t u taken → old.bytes ++ taken ≢ [] → new.bytes ≡ old.bytes ++ taken → (old.ended ≡ true → (taken ≡ []) × (new.ended ≡ true))
-    → (new.ended ≡ true → IsAtEnd u) → length new.bytes ≤ read_size → AllDone digests s u a b from at (Some (record { line = k + 1; bad = TooMany }))
+    → (new.ended ≡ true → IsAtEnd u) → length new.bytes ≤ read_size → AllDone s u a b from at (Some (record { line = k + 1; bad = TooMany }))
 ends_many k old new s t u a b taken from at many g consumed some held goes at_end near =
     let ended = the_end new.ended u in
     let all = split_all k g.lines g.taken taken old ended g.split (λ e. let w = goes e in (w.0, seen_end new.ended u w.1)) in
@@ -204,8 +205,8 @@ ends_many k old new s t u a b taken from at many g consumed some held goes at_en
     (let one : k + 1 - 1 ≡ k = omega arith in rw (one, all.1) (omega (arith, ap length held)))
 
 -- a read failed
-pub ends_short : (k : ℕ) (old : Held) (s t u a b : Option (List ℕ)) (taken : List ℕ) (from at : DigestPlatform)
-    → Progress k old s t a b from at → TakenUntilFault t u taken → (old.ended ≡ true → ⊥) → lines_from k (old.bytes ++ taken) false ≡ [] → ReadShort digests s u a b from at
+pub ends_short : (k : ℕ) (old : Held) (s t u a b : Option (List ℕ)) (taken : List ℕ) (from at : Experiment)
+    → Progress k old s t a b from at → TakenUntilFault t u taken → (old.ended ≡ true → ⊥) → lines_from k (old.bytes ++ taken) false ≡ [] → ReadShort s u a b from at
 ends_short k old s t u a b taken from at g consumed open_end none =
     let all = split_all k g.lines g.taken taken old false g.split (λ e. absurd (open_end e)) in
     let lines : script_lines (g.taken ++ taken) false ≡ g.lines = all.0 ∙ ap (λ ls. g.lines ++ ls) none ∙ append-nil g.lines in
@@ -213,11 +214,11 @@ ends_short k old s t u a b taken from at g consumed open_end none =
       taken = g.taken ++ taken;
       consumed = taken_then s t u g.taken taken g.consumed consumed;
       good = ap (first_bad 1) lines ∙ g.good;
-      done = subst (λ ls. Written digests (good_requests 1 ls) a b from at) (sym lines) g.done;
+      done = subst (λ ls. AllWritten (good_requests 1 ls) a b from at) (sym lines) g.done;
     }
 
-pub ends_failed : (k : ℕ) (old new : Held) (s t u a b : Option (List ℕ)) (from at : DigestPlatform) → k < most_lines
-    → Progress k old s t a b from at → Stepped line.Failed old new t u → ReadShort digests s u a b from at
+pub ends_failed : (k : ℕ) (old new : Held) (s t u a b : Option (List ℕ)) (from at : Experiment) → k < most_lines
+    → Progress k old s t a b from at → Stepped line.Failed old new t u → ReadShort s u a b from at
 ends_failed k old new s t u a b from at few g step =
     let wants = step.after.0 in
     ends_short k old s t u a b step.taken from at g step.consumed (λ e. let w = (step.goes e).1 in let f = wants.open_end in absurd (cc))
@@ -237,7 +238,7 @@ first_short : (new : Held) (bytes : List ℕ) → GivesFirst bytes new → lengt
 first_short new bytes (inl first) short near = omega (arith, ap length first, length-append new.line (10 ∷ new.bytes))
 first_short new bytes (inr last) short near = omega (arith, ap length last.1)
 
-given : (k : ℕ) (old new : Held) (s t u a b : Option (List ℕ)) (from at : DigestPlatform)
+given : (k : ℕ) (old new : Held) (s t u a b : Option (List ℕ)) (from at : Experiment)
     → (g : Progress k old s t a b from at) → (step : Stepped line.Line old new t u) → (new.ended ≡ true → IsAtEnd u) → length new.bytes ≤ read_size → Given k new s u g.lines (g.taken ++ step.taken)
 given k old new s t u a b from at g step at_end near =
     let ended = the_end new.ended u in
@@ -259,7 +260,7 @@ given k old new s t u a b from at g step at_end near =
     }
 
 -- no line ends with a read
-no_read : (n : ℕ) (text : List ℕ) (line : Result Request BadLine) (b c : Option (List ℕ)) (mid at : DigestPlatform) → LineRan run.ReadFault n text line b c mid at → ⊥
+no_read : (n : ℕ) (text : List ℕ) (line : Result Request BadLine) (b c : Option (List ℕ)) (mid at : Experiment) → LineRan run.ReadFault n text line b c mid at → ⊥
 no_read n text (Ok request) b c mid at ran = ran
 no_read n text (Err bad) b c mid at ran = ran
 
@@ -270,21 +271,20 @@ told_more (Some us) (Some vs) None xs ys h k = tt
 told_more (Some us) (Some vs) (Some ws) xs ys h k = k ∙ ap (λ r. r ++ ys) h ∙ append_assoc us xs ys
 
 -- requests are done and written, and of one more not all is written
-cut_line : (n : ℕ) (before : List Request) (request : Request) (a b c : Option (List ℕ)) (from mid at : DigestPlatform)
-    → Written digests before a b from mid → EventCut n request b c mid at → LineCut digests n before request a c from at
-cut_line n before request a b c from mid at w cut =
-    let there = after_all digests before from in
-    let part = subst (λ (q : DigestPlatform). AppendsPrefix b c [] (transcript_line digests n request q)) w.at cut.written in
+cut_line : (n : ℕ) (before : List Request) (request : Request) (p : Platform) (a b c : Option (List ℕ)) (mid at : Experiment)
+    → Written before p a b mid → EventCut n request (after_all before p) b c at → LineCut n before request p a c at
+cut_line n before request p a b c mid at w cut =
+    let part = cut.written in
     record {
-      some = subst (λ (q : DigestPlatform). transcript_line digests n request q ≢ []) w.at cut.some;
+      some = cut.some;
       written = record {
         prefix = part.prefix;
         missing = part.missing;
         is = part.is;
         proper = part.proper;
-        grown = told_more a b c (transcript digests 1 before from) part.prefix w.written part.grown;
+        grown = told_more a b c (transcript 1 before p) part.prefix w.written part.grown;
       };
-      at = cut.at ∙ ap (after digests request) w.at ∙ sym (after_all-append digests before (request ∷ []) from);
+      at = subst (λ q. IsAt q at) (sym (after_all-append before (request ∷ []) p)) cut.at;
     }
 
 near_faulty : (k : ℕ) (bad : BadLine) (taken : List ℕ) → (bad ≡ TooMany → ⊥) → length (behind_lines (k + 1) taken) ≤ read_size → length (behind_lines (k + 1 - 1) taken) ≤ longest_line + 1 + read_size → IsNearLine (k + 1) bad taken
@@ -297,8 +297,8 @@ near_faulty k (Faulty fault.Number) taken one near before = near
 near_faulty k (Faulty fault.Expression) taken one near before = near
 near_faulty k (Faulty fault.Name) taken one near before = near
 
-unwritten : (requests : List Request) (a b c : Option (List ℕ)) (from mid at : DigestPlatform) → Written digests requests a b from mid → NotBegun b c mid at → Written digests requests a c from at
-unwritten requests a b c from mid at all n = subst (λ o. Written digests requests a o from at) (sym n.unwritten) (subst (λ m. Written digests requests a b from m) (sym n.kept) all)
+unwritten : (requests : List Request) (a b c : Option (List ℕ)) (from mid at : Experiment) → AllWritten requests a b from mid → NotBegun b c mid at → AllWritten requests a c from at
+unwritten requests a b c from mid at all n = subst (λ o. AllWritten requests a o from at) (sym n.unwritten) (subst (λ m. AllWritten requests a b from m) (sym n.kept) all)
 
 -- a line with a fault is not one too many
 not_many : (n : ℕ) (text : List ℕ) (bad : BadLine) → n ≤ most_lines → judged n text ≡ Err bad → bad ≡ TooMany → ⊥
@@ -311,7 +311,7 @@ not_many n text bad few is many =
     faulty_alone (Ok request) bad one many = cc
     faulty_alone (Err f) bad one many = cc
 
-module _ (k : ℕ) (old new : Held) (i : Intake) (o : Output) (t b : Option (List ℕ)) (from mid at : DigestPlatform) (few : k < most_lines)
+module _ (k : ℕ) (old new : Held) (i : Intake) (o : Output) (t b : Option (List ℕ)) (from mid at : Experiment) (few : k < most_lines)
     (g : Progress k old i.old.left t o.old.contents b from mid) (step : Stepped line.Line old new t i.new.left)
     (at_end : new.ended ≡ true → IsAtEnd i.new.left) (near : length new.bytes ≤ read_size) where
   this_line : Given k new i.old.left i.new.left g.lines (g.taken ++ step.taken)
@@ -343,17 +343,17 @@ module _ (k : ℕ) (old new : Held) (i : Intake) (o : Output) (t b : Option (Lis
   judged_here r first next = ap (λ (ls : List (List ℕ)). judged (length ls + 1) r.next) first ∙ ap (λ (n : ℕ). judged n r.next) number ∙ ap (judged (k + 1)) next
 
   -- it is bad
-  line_bad : (first : ScriptFault) → LineRan (run.Bad first) (k + 1) new.line (judged (k + 1) new.line) b o.new.contents mid at → AllDone digests i.old.left i.new.left o.old.contents o.new.contents from at (Some first)
+  line_bad : (first : ScriptFault) → LineRan (run.Bad first) (k + 1) new.line (judged (k + 1) new.line) b o.new.contents mid at → AllDone i.old.left i.new.left o.old.contents o.new.contents from at (Some first)
   line_bad first ran =
       let asked = bad_asks (k + 1) new.line (judged (k + 1) new.line) first b o.new.contents mid at ran in
       let alone = not_many (k + 1) new.line asked.0 (omega arith) asked.1 in
-      let all : AllDone digests i.old.left i.new.left o.old.contents b from mid (Some (record { line = k + 1; bad = asked.0 })) =
+      let all : AllDone i.old.left i.new.left o.old.contents b from mid (Some (record { line = k + 1; bad = asked.0 })) =
       ends_bad k old new i.old.left t i.new.left o.old.contents b step.taken asked.0 from mid g step.consumed step.goes at_end
       (λ more e next.
       let here = given_first k new (old.bytes ++ step.taken) more e step.after.0 step.after.2 next in
       record { first = new.line; more = lines_from (k + 1) (new.bytes ++ more) e; are = here.0; is_bad = asked.1 })
       (near_faulty k asked.0 (g.taken ++ step.taken) alone this_line.near this_line.before) in
-      subst (λ (f : ScriptFault). AllDone digests i.old.left i.new.left o.old.contents o.new.contents from at (Some f)) (sym asked.2)
+      subst (λ (f : ScriptFault). AllDone i.old.left i.new.left o.old.contents o.new.contents from at (Some f)) (sym asked.2)
       (record {
         taken = all.taken;
         ended = all.ended;
@@ -365,7 +365,7 @@ module _ (k : ℕ) (old new : Held) (i : Intake) (o : Output) (t b : Option (Lis
       })
 
   -- its transcript line is not whole
-  line_cut : (put : PutFault) → LineRan (run.Cut put) (k + 1) new.line (judged (k + 1) new.line) b o.new.contents mid at → CutShort digests i.old.left i.new.left o.old.contents o.new.contents from at
+  line_cut : (put : PutFault) → LineRan (run.Cut put) (k + 1) new.line (judged (k + 1) new.line) b o.new.contents mid at → CutShort i.old.left i.new.left o.old.contents o.new.contents from at
   line_cut put ran =
       let asked = cut_asks (k + 1) new.line (judged (k + 1) new.line) put b o.new.contents mid at ran in
       let r = reached in
@@ -375,24 +375,26 @@ module _ (k : ℕ) (old new : Held) (i : Intake) (o : Output) (t b : Option (Lis
         reached = r.0;
         request = asked.0;
         asks = judged_here r.0 r.1 r.2 ∙ asked.1;
-        cut = subst (λ (rs : List Request). LineCut digests (length r.0.first + 1) rs asked.0 o.old.contents o.new.contents from at) (sym before)
-            (subst (λ (m : ℕ). LineCut digests m (good_requests 1 g.lines) asked.0 o.old.contents o.new.contents from at) n
-            (cut_line (k + 1) (good_requests 1 g.lines) asked.0 o.old.contents b o.new.contents from mid at g.done asked.2));
+        cut = λ p h.
+            let w = g.done p h in
+            subst (λ (rs : List Request). LineCut (length r.0.first + 1) rs asked.0 p o.old.contents o.new.contents at) (sym before)
+            (subst (λ (m : ℕ). LineCut m (good_requests 1 g.lines) asked.0 p o.old.contents o.new.contents at) n
+            (cut_line (k + 1) (good_requests 1 g.lines) asked.0 p o.old.contents b o.new.contents mid at w (asked.2 (after_all (good_requests 1 g.lines) p) w.at)));
       }
 
   -- memory ran out before it was begun
-  line_paused : LineRan run.NoMemory (k + 1) new.line (judged (k + 1) new.line) b o.new.contents mid at → Paused digests i.old.left i.new.left o.old.contents o.new.contents from at
+  line_paused : LineRan run.NoMemory (k + 1) new.line (judged (k + 1) new.line) b o.new.contents mid at → Paused i.old.left i.new.left o.old.contents o.new.contents from at
   line_paused ran =
       let r = reached in
       record {
         reached = r.0;
         wants = subst (λ (line : List ℕ). MayRunOut line (judged (length r.0.first + 1) r.0.next)) (sym r.2) (subst (MayRunOut new.line) (sym (judged_here r.0 r.1 r.2)) ran.0);
-        done = subst (λ (ls : List (List ℕ)). Written digests (good_requests 1 ls) o.old.contents o.new.contents from at) (sym r.1)
+        done = subst (λ (ls : List (List ℕ)). AllWritten (good_requests 1 ls) o.old.contents o.new.contents from at) (sym r.1)
             (unwritten (good_requests 1 g.lines) o.old.contents b o.new.contents from mid at g.done ran.1);
       }
 
   -- the run ends as the line did that was given
-  pub line_ends : (end : RunEnd ScriptFault) → (end ≡ run.Done → ⊥) → LineRan end (k + 1) new.line (judged (k + 1) new.line) b o.new.contents mid at → Ran digests end i o from at
+  pub line_ends : (end : RunEnd ScriptFault) → (end ≡ run.Done → ⊥) → LineRan end (k + 1) new.line (judged (k + 1) new.line) b o.new.contents mid at → Ran end i o from at
   line_ends run.Done goes ran = absurd (goes refl)
   line_ends (run.Bad first) goes ran = line_bad first ran
   line_ends run.ReadFault goes ran = absurd (no_read (k + 1) new.line (judged (k + 1) new.line) b o.new.contents mid at ran)
@@ -424,10 +426,24 @@ pub wants_line : (n : ℕ) (text : List ℕ) → n ≤ most_lines → (reading t
 wants_line n text few some late takes = let a : nat_lt most_lines n ≡ false = grind (arith, nat_tests) in rw a (wants_read text (reading text) some late (true_from_ne_false (words_take (words (content text))) takes))
 
 -- a line ended as its event did
-pub line_of_event : (end : RunEnd ScriptFault) (n : ℕ) (text : List ℕ) (request : Request) (a b : Option (List ℕ)) (from at : DigestPlatform) → n ≤ most_lines → reading text ≡ Ok request → LineRan end n text (Ok request) a b from at
+pub line_of_event : (end : RunEnd ScriptFault) (n : ℕ) (text : List ℕ) (request : Request) (a b : Option (List ℕ)) (from at : Experiment) → n ≤ most_lines → reading text ≡ Ok request → LineRan end n text (Ok request) a b from at
     → LineRan end n text (judged n text) a b from at
 line_of_event end n text request a b from at few h ran = subst (λ (line : Result Request BadLine). LineRan end n text line a b from at) (sym (judged_good n text request few h)) ran
 
 -- a line with a fault
 pub line_faulty : (n : ℕ) (text : List ℕ) (f : LineFault) → n ≤ most_lines → reading text ≡ Err f → judged n text ≡ Err (Faulty f)
 line_faulty n text f few h = let a : nat_lt most_lines n ≡ false = grind (arith, nat_tests) in rw (a, h) refl
+
+-- an event was done, and its line was put whole
+pub event_done : (n : ℕ) (text : List ℕ) (request : Request) (out out' : Option (List ℕ)) (old new : Experiment) (piece : List ℕ) → Appends out out' piece
+    → ((p : Platform) → IsAt p old → piece ≡ transcript_line n request p) → ((p : Platform) → IsAt p old → IsAt (after request p) new) → LineRan run.Done n text (Ok request) out out' old new
+event_done n text request out out' old new piece put is at = λ p s. record { written = subst (λ (xs : List ℕ). Appends out out' xs) (is p s) put; at = at p s }
+
+-- it was done, and the put of its line, which has bytes, was cut short
+pub event_cut : (fault : PutFault) (n : ℕ) (text : List ℕ) (request : Request) (out out' : Option (List ℕ)) (old new : Experiment) (piece : List ℕ) → piece ≢ [] → AppendsPrefix out out' [] piece
+    → ((p : Platform) → IsAt p old → piece ≡ transcript_line n request p) → ((p : Platform) → IsAt p old → IsAt (after request p) new) → LineRan (run.Cut fault) n text (Ok request) out out' old new
+event_cut fault n text request out out' old new piece some put is at = λ p s. record {
+  some = λ none. some (is p s ∙ none);
+  written = subst (λ (xs : List ℕ). AppendsPrefix out out' [] xs) (is p s) put;
+  at = at p s;
+}

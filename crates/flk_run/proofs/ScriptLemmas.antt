@@ -8,7 +8,6 @@ use Rattle.script_text.specs.Reading.{judged, reading}
 use Rattle.script_text.specs.declared.line.BadLine.{BadLine}
 use Rattle.script_text.specs.declared.line.BadLine.TheVariants.{Faulty, TooMany}
 use Rattle.script_text.specs.declared.line.LineFault.TheVariants as fault
-use Rattle.seal_device.specs.Rules.{Rules}
 use Rattle.flk_run.specs.Platform.{Platform}
 use Rattle.flk_run.specs.Events.{after, transcript_line, transcript, after_all}
 use Rattle.flk_run.specs.Script.{before_others, good_requests, bad_or, first_bad}
@@ -88,17 +87,16 @@ one_more k lines line request count none h =
 
 -- ---- transcripts
 
-pub transcript-append : {H : Type 0} (R : Rules H) (n : ℕ) (rs qs : List Request) (p : Platform H) → transcript R n (rs ++ qs) p ≡ transcript R n rs p ++ transcript R (n + length rs) qs (after_all R rs p)
-transcript-append R n [] qs p = let e : n ≡ n + 0 = omega arith in ap (λ k. transcript R k qs p) e
-transcript-append R n (r ∷ rs) qs p =
+pub transcript-append : (n : ℕ) (rs qs : List Request) (p : Platform) → transcript n (rs ++ qs) p ≡ transcript n rs p ++ transcript (n + length rs) qs (after_all rs p)
+transcript-append n [] qs p = let e : n ≡ n + 0 = omega arith in ap (λ k. transcript k qs p) e
+transcript-append n (r ∷ rs) qs p =
     let e : n + 1 + length rs ≡ n + suc (length rs) = omega arith in
-    ap (λ t. transcript_line R n r p ++ t)
-    (transcript-append R (n + 1) rs qs (after R r p) ∙ ap (λ k. transcript R (n + 1) rs (after R r p) ++ transcript R k qs (after_all R rs (after R r p))) e)
-    ∙ sym (append_assoc (transcript_line R n r p) (transcript R (n + 1) rs (after R r p)) (transcript R (n + suc (length rs)) qs (after_all R rs (after R r p))))
+    ap (λ t. transcript_line n r p ++ t) (transcript-append (n + 1) rs qs (after r p) ∙ ap (λ k. transcript (n + 1) rs (after r p) ++ transcript k qs (after_all rs (after r p))) e)
+    ∙ sym (append_assoc (transcript_line n r p) (transcript (n + 1) rs (after r p)) (transcript (n + suc (length rs)) qs (after_all rs (after r p))))
 
-pub after_all-append : {H : Type 0} (R : Rules H) (rs qs : List Request) (p : Platform H) → after_all R (rs ++ qs) p ≡ after_all R qs (after_all R rs p)
-after_all-append R [] qs p = refl
-after_all-append R (r ∷ rs) qs p = after_all-append R rs qs (after R r p)
+pub after_all-append : (rs qs : List Request) (p : Platform) → after_all (rs ++ qs) p ≡ after_all qs (after_all rs p)
+after_all-append [] qs p = refl
+after_all-append (r ∷ rs) qs p = after_all-append rs qs (after r p)
 
 -- ---- good and bad lines
 

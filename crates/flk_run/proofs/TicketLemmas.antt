@@ -7,9 +7,10 @@ use Rattle.std.proofs.lemmas.List.Folds.{find_at}
 use Rattle.region_pool.specs.declared.mark.Mark.{Mark}
 use Rattle.region_pool.specs.Spans.{Span, Holds, IsDisjoint}
 use Rattle.machine_memory.specs.Contents.{Contents, first_byte}
-use Rattle.machine_memory.specs.HostMemory.{HostSpan, starts_at}
+use Rattle.machine_memory.specs.Spans.{after_give}
+use Rattle.flk_run.specs.HostMemory.{HostSpan, starts_at}
 use Rattle.flk_run.specs.Parts.{as_host, AreApart, HoldsSpans}
-use Rattle.flk_run.specs.Taking.{Took}
+use Rattle.flk_run.specs.Taking.{Took, after_give_all}
 
 -- the span of a ticket starts at this address
 abbrev pub starts : ℕ → Span → Bool
@@ -114,6 +115,10 @@ holds_front marks new spans t stay h =
     let held = all_front (Holds marks) spans t h.held in
     let apart = apart_front spans t h.apart in
     record { held = others_held marks new t spans held.1 stay held.0 apart.1; apart = apart.0 }
+
+pub given_last : (memory : Contents) (spans : List Span) (t : Span) → after_give_all memory (spans ++ t ∷ []) ≡ after_give_all (after_give memory t) spans
+given_last memory [] t = refl
+given_last memory (s ∷ ss) t = ap (λ (m : Contents). after_give m s) (given_last memory ss t)
 
 -- ---- the ticket for an address
 

@@ -1,11 +1,11 @@
 -- The answers to events, and the lines of the transcript.
-use Rattle.std.specs.Prelude.{ℕ, ◌+◌, ◌*◌, List, [], ◌++◌, length, codes, decimal}
+use Rattle.std.specs.Prelude.{ℕ, List, [], ◌++◌, codes, decimal}
 use Rattle.hex.specs.Hex.{encode_lower}
 use Rattle.script_text.specs.declared.value.ExprFault.{ExprFault}
 use Rattle.script_text.specs.declared.value.ExprFault.TheVariants as expr
 use Rattle.slb_image.specs.Faults.{fault_number}
 use Rattle.flk_run.specs.declared.answers.Refusal.{Refusal}
-use Rattle.flk_run.specs.declared.answers.Refusal.TheVariants.{NoRegister, NoValue, NoImage, NoRoom, NoSpan, NoTaken, NoLong, NoBlocked, PowerLost}
+use Rattle.flk_run.specs.declared.answers.Refusal.TheVariants.{NoRegister, NoValue, NoImage, NoRoom, NoSpan, NoTaken, NoLong, NoBlocked}
 
 -- an answer: none, that it was done, with a number, with bytes, or why it was not
 pub data Answer : Type 0 where
@@ -31,7 +31,6 @@ refusal_text NoSpan = codes "no span"
 refusal_text NoTaken = codes "no taken"
 refusal_text NoLong = codes "no long"
 refusal_text NoBlocked = codes "no blocked"
-refusal_text PowerLost = codes "power lost"
 
 -- line n of the transcript: its number, a space, the text, LF
 abbrev pub numbered : ℕ → List ℕ → List ℕ
@@ -44,9 +43,3 @@ line_of n Done = numbered n (codes "ok")
 line_of n (Counts m) = numbered n (codes "ok " ++ decimal m)
 line_of n (Shows bytes) = numbered n (codes "ok x:" ++ encode_lower bytes)
 line_of n (Refused why) = numbered n (refusal_text why)
-
--- the room that is made for the line of an answer
-abbrev pub room_of : Answer → ℕ
-room_of Quiet = 0
-room_of (Shows bytes) = 64 + 2 * length bytes
-room_of other = 64

@@ -1,4 +1,5 @@
--- How far a run of a script came: what was taken, what was done, and what was written.
+-- How far a run of a script came: what was taken, what was done, and what was written. What is done and
+-- written is said for every platform that the board and the disk hold when the run begins.
 use Rattle.std.specs.Prelude.{◌≡◌, ◌≢◌, ◌⊎◌, ℕ, ◌+◌, ◌-◌, ◌≤◌, Bool, true, false, List, [], ◌∷◌, ◌++◌, length, Option, Some, None, Ok}
 use Rattle.std.specs.Io.KnownBytes.{Appends}
 use Rattle.flk_base.specs.Told.{AppendsPrefix}
@@ -13,9 +14,9 @@ use Rattle.script_text.specs.declared.line.BadLine.{BadLine}
 use Rattle.script_text.specs.declared.line.BadLine.TheVariants.{Faulty, TooMany}
 use Rattle.script_text.specs.declared.line.LineFault.TheVariants as fault
 use Rattle.flk_run.specs.declared.run.ScriptFault.{ScriptFault}
-use Rattle.seal_device.specs.Rules.{Rules}
 use Rattle.flk_run.specs.Platform.{Platform}
 use Rattle.flk_run.specs.Events.{transcript_line, transcript, after_all}
+use Rattle.flk_run.specs.Parts.{Experiment, IsAt}
 use Rattle.flk_run.specs.Script.{good_requests, first_bad, MayRunOut}
 use Rattle.flk_run.specs.LineRuns.{NotBegun}
 
@@ -37,17 +38,21 @@ bad_in taken ended = first_bad 1 (script_lines taken ended)
 
 -- ---- what was done and written
 
--- the requests are done, and their transcript is written
-pub record Written {H : Type 0} (R : Rules H) (requests : List Request) (out out' : Option (List ℕ)) (old new : Platform H) : Type 0 where
-  pub written : Appends out out' (transcript R 1 requests old)
-  pub at : new ≡ after_all R requests old
+-- from platform p the requests are done, and their transcript is written
+pub record Written (requests : List Request) (p : Platform) (out out' : Option (List ℕ)) (new : Experiment) : Type 0 where
+  pub written : Appends out out' (transcript 1 requests p)
+  pub at : IsAt (after_all requests p) new
 
--- these requests are done and written, and that of line n is done, of whose transcript line, which has bytes, not all is
--- written
-pub record LineCut {H : Type 0} (R : Rules H) (n : ℕ) (before : List Request) (request : Request) (out out' : Option (List ℕ)) (old new : Platform H) : Type 0 where
-  pub some : transcript_line R n request (after_all R before old) ≢ []
-  pub written : AppendsPrefix out out' (transcript R 1 before old) (transcript_line R n request (after_all R before old))
-  pub at : new ≡ after_all R (before ++ request ∷ []) old
+-- the same, from each platform that the experiment was at
+abbrev pub AllWritten : List Request → Option (List ℕ) → Option (List ℕ) → Experiment → Experiment → Type 0
+AllWritten requests out out' old new = (p : Platform) → IsAt p old → Written requests p out out' new
+
+-- from platform p these requests are done and written, and that of line n is done, of whose transcript line, which has
+-- bytes, not all is written
+pub record LineCut (n : ℕ) (before : List Request) (request : Request) (p : Platform) (out out' : Option (List ℕ)) (new : Experiment) : Type 0 where
+  pub some : transcript_line n request (after_all before p) ≢ []
+  pub written : AppendsPrefix out out' (transcript 1 before p) (transcript_line n request (after_all before p))
+  pub at : IsAt (after_all (before ++ request ∷ []) p) new
 
 -- ---- how a run ended
 
@@ -64,7 +69,7 @@ pub record Reached (source source' : Option (List ℕ)) : Type 0 where
   pub good : first_bad 1 first ≡ None
   pub near : length (behind_lines (length first + 1) taken) ≤ read_size
 
-module _ {H : Type 0} (R : Rules H) (source source' out out' : Option (List ℕ)) (old new : Platform H) where
+module _ (source source' out out' : Option (List ℕ)) (old new : Experiment) where
   -- the lines before the first bad one are done and written, and it is the first whatever follows; all of the source
   -- was read where there is none
   pub record AllDone (bad : Option ScriptFault) : Type 0 where
@@ -73,7 +78,7 @@ module _ {H : Type 0} (R : Rules H) (source source' out out' : Option (List ℕ)
     pub takes : Takes source source' taken ended
     pub judged : IsSettled bad_in taken ended bad
     pub read : bad ≡ None → ended ≡ true
-    pub done : Written R (good_requests 1 (script_lines taken ended)) out out' old new
+    pub done : AllWritten (good_requests 1 (script_lines taken ended)) out out' old new
     pub near : IsNear bad taken
 
   -- the whole lines that were taken before a read failed are good, done and written
@@ -81,27 +86,27 @@ module _ {H : Type 0} (R : Rules H) (source source' out out' : Option (List ℕ)
     pub taken : List ℕ
     pub consumed : TakenUntilFault source source' taken
     pub good : bad_in taken false ≡ None
-    pub done : Written R (good_requests 1 (script_lines taken false)) out out' old new
+    pub done : AllWritten (good_requests 1 (script_lines taken false)) out out' old new
 
   -- the next line was done too, but its transcript line is not whole
   pub record CutShort : Type 0 where
     pub reached : Reached source source'
     pub request : Request
     pub asks : judged (length reached.first + 1) reached.next ≡ Ok request
-    pub cut : LineCut R (length reached.first + 1) (good_requests 1 reached.first) request out out' old new
+    pub cut : (p : Platform) → IsAt p old → LineCut (length reached.first + 1) (good_requests 1 reached.first) request p out out' new
 
   -- memory ran out before the next line was begun, which may want some
   pub record Paused : Type 0 where
     pub reached : Reached source source'
     pub wants : MayRunOut reached.next (judged (length reached.first + 1) reached.next)
-    pub done : Written R (good_requests 1 reached.first) out out' old new
+    pub done : AllWritten (good_requests 1 reached.first) out out' old new
 
 -- what a run that ended so took, did and wrote; memory may also run out before anything is asked of the source
-abbrev pub Ran : {H : Type 0} → Rules H → RunEnd ScriptFault → Intake → Output → Platform H → Platform H → Type 0
-Ran R Done s o old new = AllDone R s.old.left s.new.left o.old.contents o.new.contents old new None
-Ran R (Bad first) s o old new = AllDone R s.old.left s.new.left o.old.contents o.new.contents old new (Some first)
-Ran R ReadFault s o old new = ReadShort R s.old.left s.new.left o.old.contents o.new.contents old new
-Ran R (Cut fault) s o old new = CutShort R s.old.left s.new.left o.old.contents o.new.contents old new
-Ran R NoMemory s o old new =
+abbrev pub Ran : RunEnd ScriptFault → Intake → Output → Experiment → Experiment → Type 0
+Ran Done s o old new = AllDone s.old.left s.new.left o.old.contents o.new.contents old new None
+Ran (Bad first) s o old new = AllDone s.old.left s.new.left o.old.contents o.new.contents old new (Some first)
+Ran ReadFault s o old new = ReadShort s.old.left s.new.left o.old.contents o.new.contents old new
+Ran (Cut fault) s o old new = CutShort s.old.left s.new.left o.old.contents o.new.contents old new
+Ran NoMemory s o old new =
     (s.IsUntouched × NotBegun o.old.contents o.new.contents old new)
-    ⊎ Paused R s.old.left s.new.left o.old.contents o.new.contents old new
+    ⊎ Paused s.old.left s.new.left o.old.contents o.new.contents old new

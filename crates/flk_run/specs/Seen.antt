@@ -1,17 +1,16 @@
 -- How clauses see what the code holds while it does an event.
-use Rattle.std.specs.Prelude.{◌≡◌, ◌≤◌, length, Bool, true, false}
-use Rattle.seal_device.specs.Digests.{digests}
+use Rattle.std.specs.Prelude.{◌≡◌, ℕ, ◌≤◌, List, ◌++◌, length, Bool, true, false}
+use Rattle.script_text.specs.Grammar.{Request}
 use Rattle.script_text.specs.Seen.{IsShortName}
 use Rattle.script_text.specs.Values.{longest_value}
-use Rattle.script_text.specs.Variables.{Table}
-use Rattle.flk_run.specs.declared.disk.SimDisk.{SimDisk}
-use Rattle.flk_run.specs.declared.answers.Answer.{Answer as HeldAnswer}
-use Rattle.flk_run.specs.declared.answers.Answer.TheVariants as answer
+use Rattle.flk_run.specs.declared.runner.StepEnd.{StepEnd}
+use Rattle.flk_run.specs.declared.runner.StepEnd.TheVariants.{Done, NoMemory}
 use Rattle.flk_run.specs.declared.tasks.Task.{Task as HeldTask}
 use Rattle.flk_run.specs.declared.tasks.Task.TheVariants as held
-use Rattle.flk_run.specs.Answers.{Answer, Quiet, Done, Counts, Shows, Refused}
-use Rattle.flk_run.specs.Events.{task_step}
-use Rattle.flk_run.specs.Parts.{BoardParts, platform_of}
+use Rattle.flk_run.specs.Answers.{line_of}
+use Rattle.flk_run.specs.Events.{Step, step}
+use Rattle.flk_run.specs.Parts.{Experiment, IsAt}
+use Rattle.flk_run.specs.Platform.{Platform}
 use Rattle.flk_run.specs.Tasks.{Task, Rest, Refuse, Extend, Read, Bind, Show, BindImage, Take, Give, Poke, Peek, Dma}
 
 -- the task, with bytes in place of what holds them
@@ -52,17 +51,12 @@ abbrev pub takes : Task → Bool
 takes (Take frames) = true
 takes _ = false
 
--- the answer, with bytes in place of what holds them
-abbrev pub seen_answer : HeldAnswer → Answer
-seen_answer answer.Quiet = Quiet
-seen_answer answer.Done = Done
-seen_answer (answer.Counts n) = Counts n
-seen_answer (answer.Register value) = Shows value
-seen_answer (answer.Shows value) = Shows value.bytes
-seen_answer (answer.Peeked bytes) = Shows bytes.items
-seen_answer (answer.Refused why) = Refused why
+-- a step was done, and its line is written behind what was there
+pub record StepDone (n : ℕ) (s : Step) (new : Experiment) (out out' : List ℕ) : Type 0 where
+  pub at : IsAt s.platform new
+  pub written : out' ≡ out ++ line_of n s.answer
 
--- a board did the task as the platform by digests does, whatever the disk and the variables
-abbrev pub Steps : Task → BoardParts → BoardParts → HeldAnswer → Type 0
-Steps task before after answer =
-    (disk : SimDisk) (variables : Table) → (platform_of after disk variables, seen_answer answer) ≡ task_step digests task (platform_of before disk variables)
+-- an event was done, from each platform that the experiment was at; or there was no memory, and all is as before
+abbrev pub EventStepped : StepEnd → ℕ → Request → Experiment → Experiment → List ℕ → List ℕ → Type 0
+EventStepped Done n request old new out out' = (p : Platform) → IsAt p old → StepDone n (step request p) new out out'
+EventStepped NoMemory n request old new out out' = (new ≡ old) × (out' ≡ out)

@@ -1,8 +1,7 @@
 // The answers to events, as lines of the transcript.
 ghost use Rattle.std.specs.Prelude.{◌≡◌, ◌+◌, ◌*◌, ◌≤◌, ◌++◌, length, codes, decimal};
 ghost use Rattle.hex.specs.Hex.{encode_lower};
-ghost use Rattle.flk_run.specs.Answers.{fault_text, numbered, line_of, room_of, Done, Counts, Shows, Refused};
-ghost use Rattle.flk_run.specs.Seen.{seen_answer};
+ghost use Rattle.flk_run.specs.Answers.{fault_text, numbered, line_of, Done, Counts, Shows, Refused};
 
 use flk_base::{Bytes, print_hex};
 use itoa::Buffer;
@@ -28,27 +27,6 @@ pub enum Refusal {
     NoLong,
     /// Some byte lies in no span, so no device may write it.
     NoBlocked,
-    /// The power was lost before the event was done.
-    PowerLost,
-}
-
-/// The answer to an event.
-#[derive(Drop)]
-pub(crate) enum Answer {
-    /// None: the line asks for nothing.
-    Quiet,
-    /// It was done.
-    Done,
-    /// It was done, with a number.
-    Counts(usize),
-    /// It shows the value of a register.
-    Register([u8; 20]),
-    /// It shows a value.
-    Shows(Bytes),
-    /// It shows bytes of memory.
-    Peeked(Vec<u8>),
-    /// It was not done.
-    Refused(Refusal),
 }
 
 // The number of a line, and a space.
@@ -72,16 +50,16 @@ fn put_line(out: &mut Bytes, number: u32, text: &[u8])
     out.put(b"\n");
 }
 
-// A line that an event was done.
-fn put_done(out: &mut Bytes, number: u32)
+/// A line that an event was done.
+pub(crate) fn put_done(out: &mut Bytes, number: u32)
     requires { 64 ≤ out.old.spare }
     ensures { out.new.bytes ≡ out.old.bytes ++ line_of number Done }
 {
     put_line(out, number, b"ok");
 }
 
-// A line with a number.
-fn put_count(out: &mut Bytes, number: u32, count: usize)
+/// A line with a number.
+pub(crate) fn put_count(out: &mut Bytes, number: u32, count: usize)
     requires { 64 ≤ out.old.spare }
     ensures { out.new.bytes ≡ out.old.bytes ++ line_of number (Counts count) }
 {
@@ -92,8 +70,8 @@ fn put_count(out: &mut Bytes, number: u32, count: usize)
     out.put(b"\n");
 }
 
-// A line with a value, for which there is room.
-fn put_value(out: &mut Bytes, number: u32, value: &[u8])
+/// A line with a value, for which there is room.
+pub(crate) fn put_value(out: &mut Bytes, number: u32, value: &[u8])
     requires { 64 + 2 * length value.now ≤ out.old.spare }
     ensures { out.new.bytes ≡ out.old.bytes ++ line_of number (Shows value.now) }
 {
@@ -128,8 +106,8 @@ fn put_no_image(out: &mut Bytes, number: u32, fault: ImageFault)
     out.put(b"\n");
 }
 
-// A line that an event was not done.
-fn put_refusal(out: &mut Bytes, number: u32, refusal: Refusal)
+/// A line that an event was not done.
+pub(crate) fn put_refusal(out: &mut Bytes, number: u32, refusal: Refusal)
     requires { 64 ≤ out.old.spare }
     ensures { out.new.bytes ≡ out.old.bytes ++ line_of number (Refused refusal) }
 {
@@ -142,22 +120,5 @@ fn put_refusal(out: &mut Bytes, number: u32, refusal: Refusal)
         Refusal::NoTaken => put_line(out, number, b"no taken"),
         Refusal::NoLong => put_line(out, number, b"no long"),
         Refusal::NoBlocked => put_line(out, number, b"no blocked"),
-        Refusal::PowerLost => put_line(out, number, b"power lost"),
-    }
-}
-
-/// The line of an answer, for which there is room; nothing where there is none.
-pub(crate) fn put_answer(out: &mut Bytes, number: u32, answer: &Answer)
-    requires { room_of (seen_answer answer.now) ≤ out.old.spare }
-    ensures { out.new.bytes ≡ out.old.bytes ++ line_of number (seen_answer answer.now) }
-{
-    match answer {
-        Answer::Quiet => {}
-        Answer::Done => put_done(out, number),
-        Answer::Counts(count) => put_count(out, number, *count),
-        Answer::Register(value) => put_value(out, number, value),
-        Answer::Shows(value) => put_value(out, number, value.as_slice()),
-        Answer::Peeked(bytes) => put_value(out, number, bytes),
-        Answer::Refused(refusal) => put_refusal(out, number, *refusal),
     }
 }

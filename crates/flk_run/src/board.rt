@@ -1,231 +1,151 @@
-// The board, and what the host does with it: events without expressions.
-ghost use Rattle.std.specs.Prelude.{◌≡◌, ◌+◌, ◌*◌, ◌≤◌, length, OnOk};
-ghost use Rattle.flk_run.specs.Answers.{room_of};
-ghost use Rattle.flk_run.specs.Seen.{Steps, seen_answer};
-ghost use Rattle.flk_run.specs.Tasks.{Extend, Read, Take, Give, Poke, Peek, Dma};
-
-use crate::answers::{Answer, Refusal};
-use crate::hardware::Hardware;
-use crate::tickets::{give_all, keep, room_for_ticket, ticket_at};
+// The board and the disk.
 use flk_base::NoMemory;
-use machine_memory::DevEnd;
-use region_pool::Ticket;
-use seal_device::RegisterFault;
+use machine_memory::{DevEnd, Memory, NotTaken, TakeFault};
+use region_pool::{NoRoom, Purpose, Ticket};
 use std::alloc::Global;
 use std::marker::Model;
+use tpm_state::{Bank, NoRegister};
 
-/// A board: its device, its memory and its fuse, and the tickets for all spans that are taken of its memory. Contracts
-/// see memory by its bytes and spans. It must be spent, by `scrap`.
+/// A board: its registers and its memory. It must be spent.
 pub struct Board {
-    hardware: Hardware,
-    tickets: Vec<Ticket>,
+    bank: Bank,
+    memory: Memory,
 }
 
 impl Model for Board {
-    ghost use Rattle.std.specs.Prelude.{◌-◌, vec_len, vec_capacity};
-    ghost use Rattle.flk_run.specs.Parts.{BoardParts, HasTickets, host_memory};
+    ghost use Rattle.flk_run.specs.Parts.{BoardParts};
 
     ghost Value = { BoardParts };
 
-    ghost view = { λ b. record {
-      device = b.hardware.device;
-      memory = host_memory b.hardware.memory b.tickets.items;
-      fuse = b.hardware.fuse;
-      spare = vec_capacity b.tickets - vec_len b.tickets;
-    } };
-
-    ghost invariant = { λ b. HasTickets b.hardware.memory b.tickets.items };
+    ghost view = { λ b. record { registers = b.bank; memory = b.memory } };
 }
 
 impl Board {
-    ghost use Rattle.std.specs.Prelude.{IfOk};
-    ghost use Rattle.std.specs.FinMap.{empty};
-    ghost use Rattle.seal_device.specs.Digests.{digests};
-    ghost use Rattle.flk_run.specs.declared.disk.SimDisk.{SimDisk as DiskView};
-    ghost use Rattle.flk_run.specs.Platform.{blank};
-    ghost use Rattle.flk_run.specs.Parts.{platform_of};
+    ghost use Rattle.std.specs.Prelude.{◌≡◌, ◌≢◌, ◌≤◌, ◌↔◌, ◌++◌, [], length, map, IfOk, IsErr, OnOk, OnErr, MatchResult, slice_index_or, slice_set};
+    ghost use Rattle.tpm_state.specs.Chain.{extended, value, power_chains, register_count};
+    ghost use Rattle.region_pool.specs.Places.{HasNoPlace};
+    ghost use Rattle.region_pool.specs.Spans.{Span, Holds};
+    ghost use Rattle.machine_memory.specs.Writes.{part};
+    ghost use Rattle.machine_memory.specs.Contents.{blank};
+    ghost use Rattle.machine_memory.specs.Spans.{LiesInSpan, with_bytes, after_give};
+    ghost use Rattle.machine_memory.specs.DeviceWrites.{device_end, after_device_write};
+    ghost use Rattle.flk_run.specs.declared.board.SimDisk.{SimDisk as DiskView};
+    ghost use Rattle.flk_run.specs.Platform as platform;
+    ghost use Rattle.flk_run.specs.Parts.{Stands};
+    ghost use Rattle.flk_run.specs.Taking.{Took};
 
-    /// A board that was never used, without a fuse.
+    /// The board after power-on, beside any disk that of the platform after power-on.
     pub fn blank(alloc: Global) -> Result<Board, NoMemory>
-        ensures { IfOk result (λ board. (disk : DiskView) → platform_of board disk empty ≡ blank digests disk) }
+        ensures registers { IfOk result (λ board. board.registers ≡ map value power_chains) }
+        ensures memory { IfOk result (λ board. board.memory ≡ blank) }
+        ensures stands { (disk : DiskView) → IfOk result (λ board. Stands platform.blank (record { board = board; disk = disk })) }
     {
-        match Hardware::blank(alloc) {
-            Ok(hardware) => Ok(Board {
-                hardware,
-                tickets: Vec::new(alloc),
+        match Memory::blank(alloc) {
+            Ok(memory) => Ok(Board {
+                bank: Bank::power_on(),
+                memory,
             }),
             Err(_) => Err(NoMemory),
         }
     }
 
-    /// Ends the board: the spans that are taken are given back.
-    #[tactic(auto, using(crate::proofs::StepLemmas::held_spans))]
+    /// Extends register `r` by the text that `front` and `text` are together.
+    pub(crate) fn extend(&mut self, r: u32, front: &[u8], text: &[u8]) -> Result<(), NoRegister>
+        ensures refused { IsErr result ↔ (register_count ≤ r) }
+        ensures ok { OnOk result (self.new.registers
+            ≡ slice_set self.old.registers r (extended (slice_index_or self.old.registers r []) (front.now ++ text.now))) }
+        ensures memory { self.new.memory ≡ self.old.memory }
+        ensures err { OnErr result (self.new ≡ self.old) }
+    {
+        self.bank.extend(r, front, text)
+    }
+
+    /// The value of register `r`.
+    pub(crate) fn read_register(&self, r: u32) -> Result<[u8; 20], NoRegister>
+        ensures refused { IsErr result ↔ (register_count ≤ r) }
+        ensures value { IfOk result (λ shown. shown ≡ slice_index_or self.now.registers r []) }
+    {
+        self.bank.read(r)
+    }
+
+    /// Takes a span of so many frames for the host, at the lowest place. Its bytes are zero.
+    pub(crate) fn take(&mut self, frames: u32) -> Result<Ticket, NoRoom>
+        requires { 1 ≤ frames }
+        ensures took { IfOk result (λ ticket. Took frames self.old.memory self.new.memory ticket) }
+        ensures refused { OnErr result (HasNoPlace self.old.memory.marks frames 1) }
+        ensures registers { self.new.registers ≡ self.old.registers }
+        ensures err { OnErr result (self.new ≡ self.old) }
+    {
+        match self.memory.take(frames, 1, Purpose::Host) {
+            Ok(ticket) => Ok(ticket),
+            Err(TakeFault::NoRoom) => Err(NoRoom),
+            Err(TakeFault::NoMemory) => unreachable!(),
+        }
+    }
+
+    /// Gives a span back: its bytes become zero.
+    pub(crate) fn give(&mut self, ticket: Ticket)
+        requires { Holds self.old.memory.marks ticket }
+        ensures given { self.new.memory ≡ after_give self.old.memory ticket }
+        ensures others { (other : Span) → Holds self.old.memory.marks other → other ≢ ticket → Holds self.new.memory.marks other }
+        ensures registers { self.new.registers ≡ self.old.registers }
+    {
+        self.memory.give_wiped(ticket);
+    }
+
+    /// Writes bytes of one span for the host.
+    pub(crate) fn host_write(&mut self, at: u32, bytes: &[u8]) -> Result<(), NotTaken>
+        ensures taken { MatchResult result
+            (λ _. LiesInSpan self.old.memory.marks at (length bytes.now))
+            (λ _. ¬ LiesInSpan self.old.memory.marks at (length bytes.now)) }
+        ensures written { OnOk result (self.new.memory ≡ with_bytes self.old.memory at bytes.now) }
+        ensures registers { self.new.registers ≡ self.old.registers }
+        ensures err { OnErr result (self.new ≡ self.old) }
+    {
+        self.memory.host_write(at, bytes)
+    }
+
+    /// Reads bytes of one span for the host.
+    pub(crate) fn host_read(&self, at: u32, out: &mut [u8]) -> Result<(), NotTaken>
+        ensures taken { MatchResult result
+            (λ _. LiesInSpan self.now.memory.marks at (length out.old))
+            (λ _. ¬ LiesInSpan self.now.memory.marks at (length out.old)) }
+        ensures read { OnOk result (out.new ≡ part self.now.memory.bytes at (length out.old)) }
+    {
+        self.memory.host_read(at, out)
+    }
+
+    /// Writes bytes for a device, where each of them lies in a span.
+    pub(crate) fn dev_write(&mut self, at: u32, bytes: &[u8]) -> DevEnd
+        ensures ended { result ≡ device_end self.old.memory.excluded at (length bytes.now) }
+        ensures written { self.new.memory ≡ after_device_write self.old.memory at bytes.now }
+        ensures registers { self.new.registers ≡ self.old.registers }
+    {
+        self.memory.dev_write(at, bytes)
+    }
+
+    /// Ends the board.
     pub fn scrap(self) {
-        let Board {
-            mut hardware,
-            tickets,
-        } = self;
-        give_all(tickets, &mut hardware);
-        hardware.scrap();
+        let Board { bank: _, memory: _ } = self;
+    }
+}
+
+/// A disk, which has no contents yet. It must be spent.
+pub struct SimDisk {}
+
+impl SimDisk {
+    ghost use Rattle.std.specs.Prelude.{◌≡◌, IfOk};
+    ghost use Rattle.flk_run.specs.Parts.{blank_disk};
+
+    /// The disk after power-on.
+    pub fn blank(_alloc: Global) -> Result<SimDisk, NoMemory>
+        ensures { IfOk result (λ disk. disk ≡ blank_disk) }
+    {
+        Ok(SimDisk {})
     }
 
-    /// Makes room for one more ticket.
-    pub(crate) fn room(&mut self) -> Result<(), NoMemory>
-        ensures same { self.new ≡ record self.old { spare = self.new.spare } }
-        ensures room { OnOk result (1 ≤ self.new.spare) }
-    {
-        room_for_ticket(&mut self.tickets)
-    }
-
-    /// Extends register `r` by the text `host` and these bytes.
-    pub(crate) fn extend(self, r: u32, text: &[u8]) -> (Board, Answer)
-        ensures steps { Steps (Extend r text.now) self result.0 result.1 }
-        ensures fits { room_of (seen_answer result.1) ≤ 104 }
-    {
-        let Board {
-            mut hardware,
-            tickets,
-        } = self;
-        match hardware.extend(r, b"host", text) {
-            Ok(()) => return (Board { hardware, tickets }, Answer::Done),
-            Err(RegisterFault::NoRegister) => {
-                return (
-                    Board { hardware, tickets },
-                    Answer::Refused(Refusal::NoRegister),
-                );
-            }
-            Err(RegisterFault::PowerLost) => {
-                hardware.power_on();
-                return (
-                    Board { hardware, tickets },
-                    Answer::Refused(Refusal::PowerLost),
-                );
-            }
-        }
-    }
-
-    /// Shows register `r`.
-    pub(crate) fn read(self, r: u32) -> (Board, Answer)
-        ensures steps { Steps (Read r) self result.0 result.1 }
-        ensures fits { room_of (seen_answer result.1) ≤ 104 }
-    {
-        let Board {
-            mut hardware,
-            tickets,
-        } = self;
-        match hardware.read_register(r) {
-            Ok(value) => return (Board { hardware, tickets }, Answer::Register(value)),
-            Err(RegisterFault::NoRegister) => {
-                return (
-                    Board { hardware, tickets },
-                    Answer::Refused(Refusal::NoRegister),
-                );
-            }
-            Err(RegisterFault::PowerLost) => {
-                hardware.power_on();
-                return (
-                    Board { hardware, tickets },
-                    Answer::Refused(Refusal::PowerLost),
-                );
-            }
-        }
-    }
-
-    /// Takes a span of so many frames, for whose ticket there is room.
-    pub(crate) fn take(self, frames: u32) -> (Board, Answer)
-        requires { 1 ≤ self.spare }
-        ensures steps { Steps (Take frames) self result.0 result.1 }
-        ensures fits { room_of (seen_answer result.1) ≤ 104 }
-    {
-        if frames == 0 {
-            return (self, Answer::Refused(Refusal::NoRoom));
-        }
-        let Board {
-            mut hardware,
-            mut tickets,
-        } = self;
-        match hardware.take(frames) {
-            Ok(ticket) => {
-                let address = 4096 * ticket.first() as usize;
-                keep(&mut tickets, ticket);
-                return (Board { hardware, tickets }, Answer::Counts(address));
-            }
-            Err(_) => return (
-                Board { hardware, tickets },
-                Answer::Refused(Refusal::NoRoom),
-            ),
-        }
-    }
-
-    /// Gives back the span that starts at an address.
-    pub(crate) fn give(self, at: u32) -> (Board, Answer)
-        ensures steps { Steps (Give at) self result.0 result.1 }
-        ensures fits { room_of (seen_answer result.1) ≤ 104 }
-    {
-        let Board {
-            mut hardware,
-            mut tickets,
-        } = self;
-        match ticket_at(&tickets, at) {
-            Some(index) => {
-                let ticket = tickets.remove(index);
-                hardware.give(ticket);
-                return (Board { hardware, tickets }, Answer::Done);
-            }
-            None => return (
-                Board { hardware, tickets },
-                Answer::Refused(Refusal::NoSpan),
-            ),
-        }
-    }
-
-    /// Writes bytes of one span.
-    pub(crate) fn poke(self, at: u32, bytes: &[u8]) -> (Board, Answer)
-        ensures steps { Steps (Poke at bytes.now) self result.0 result.1 }
-        ensures fits { room_of (seen_answer result.1) ≤ 104 }
-    {
-        let Board {
-            mut hardware,
-            tickets,
-        } = self;
-        match hardware.host_write(at, bytes) {
-            Ok(()) => return (Board { hardware, tickets }, Answer::Done),
-            Err(_) => return (
-                Board { hardware, tickets },
-                Answer::Refused(Refusal::NoTaken),
-            ),
-        }
-    }
-
-    /// Shows as many bytes of one span as `bytes` has room for.
-    pub(crate) fn peek(self, at: u32, bytes: Vec<u8>) -> (Board, Answer)
-        ensures steps { Steps (Peek at (length bytes.items)) self result.0 result.1 }
-        ensures fits { room_of (seen_answer result.1) ≤ 64 + 2 * length bytes.items }
-    {
-        let mut bytes = bytes;
-        match self.hardware.host_read(at, &mut bytes) {
-            Ok(()) => return (self, Answer::Peeked(bytes)),
-            Err(_) => return (self, Answer::Refused(Refusal::NoTaken)),
-        }
-    }
-
-    /// Has a device write bytes.
-    pub(crate) fn dma(self, at: u32, bytes: &[u8]) -> (Board, Answer)
-        ensures steps { Steps (Dma at bytes.now) self result.0 result.1 }
-        ensures fits { room_of (seen_answer result.1) ≤ 104 }
-    {
-        let Board {
-            mut hardware,
-            tickets,
-        } = self;
-        match hardware.dev_write(at, bytes) {
-            DevEnd::Done => return (Board { hardware, tickets }, Answer::Done),
-            DevEnd::Blocked => {
-                return (
-                    Board { hardware, tickets },
-                    Answer::Refused(Refusal::NoBlocked),
-                );
-            }
-        }
+    /// Ends the disk.
+    pub fn scrap(self) {
+        let SimDisk {} = self;
     }
 }

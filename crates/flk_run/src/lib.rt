@@ -3,20 +3,17 @@
 
 mod answers;
 mod board;
-mod disk;
 mod events;
-mod hardware;
-mod laws;
+mod memory;
 mod run;
 mod runner;
+mod spans;
 mod tasks;
 #[cfg(test)]
 mod tests;
-mod tickets;
 
 pub use answers::Refusal;
-pub use board::Board;
-pub use disk::SimDisk;
-pub use laws::{script_is_one_plan, scripts_by_lists};
+pub use board::{Board, SimDisk};
 pub use run::{ScriptFault, run_script};
 pub use runner::{Runner, StepEnd};
+pub use spans::Spans;

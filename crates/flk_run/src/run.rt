@@ -2,13 +2,9 @@
 ghost use Rattle.std.specs.Prelude.{◌≡◌, ℕ, ◌≤◌, ◌+◌, List, [], false};
 ghost use Rattle.flk_base.specs.Streams.{intake, output};
 ghost use Rattle.flk_base.specs.RunEnds.{HasCauses, WriteHasCause};
-ghost use Rattle.seal_device.specs.Digests.{digests};
-ghost use Rattle.seal_device.specs.Lists.{lists};
 ghost use Rattle.script_text.specs.Lines.{most_lines};
 ghost use Rattle.script_text.specs.Reading.{judged};
 ghost use Rattle.script_text.specs.Seen.{request_of, HasShortName};
-ghost use Rattle.flk_run.specs.Agreement.{AgreesByLists};
-ghost use Rattle.flk_run.specs.Platform.{ListPlatform, platform_digested};
 ghost use Rattle.flk_run.specs.Runs.{Ran};
 ghost use Rattle.flk_run.specs.LineRuns.{LineRan};
 
@@ -37,11 +33,8 @@ pub fn run_script<S: Source, K: Sink>(
     out: &mut K,
     runner: Runner,
 ) -> (Runner, RunEnd<ScriptFault>)
-    // What was taken, done and written, on the platform by digests.
-    ensures ran { Ran digests result.1 (intake S.Source source.old source.new) (output K.Sink out.old out.new) runner result.0 }
-    // The same by lists, from each platform that stands for the runner's.
-    ensures lists { (p : ListPlatform) → platform_digested p ≡ runner →
-        AgreesByLists (Ran lists result.1 (intake S.Source source.old source.new) (output K.Sink out.old out.new)) p result.0 }
+    // What was taken, done and written, for every platform that the runner's board and disk hold.
+    ensures ran { Ran result.1 (intake S.Source source.old source.new) (output K.Sink out.old out.new) runner result.0 }
     // No fault is passed over, or reported as another end.
     ensures caused { HasCauses result.1 (intake S.Source source.old source.new) (output K.Sink out.old out.new) }
 {
@@ -60,7 +53,7 @@ fn run_lines<S: Source, K: Sink>(
     runner: Runner,
 ) -> (Runner, RunEnd<ScriptFault>)
     requires { reader ≡ record { bytes = []; ended = false; line = [] } }
-    ensures ran { Ran digests result.1 (intake S.Source source.old source.new) (output K.Sink out.old out.new) runner result.0 }
+    ensures ran { Ran result.1 (intake S.Source source.old source.new) (output K.Sink out.old out.new) runner result.0 }
     ensures caused { HasCauses result.1 (intake S.Source source.old source.new) (output K.Sink out.old out.new) }
 {
     let mut reader = reader;

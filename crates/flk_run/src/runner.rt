@@ -1,15 +1,9 @@
 // Runs events.
-ghost use Rattle.std.specs.Prelude.{◌≡◌, ◌≤◌, true, false, IfOk, IsOk, IsErr, OnOk};
-ghost use Rattle.script_text.specs.Seen.{request_of, HasShortName};
-ghost use Rattle.flk_run.specs.Tasks.{room, task_of, TakesMemory};
-ghost use Rattle.flk_run.specs.Seen.{seen, binds, takes, IsNamed};
-
-use crate::answers::put_answer;
-use crate::board::Board;
-use crate::disk::SimDisk;
-use crate::events::perform;
-use crate::tasks::{Task, task_of};
-use flk_base::{Bytes, NoMemory};
+use crate::board::{Board, SimDisk};
+use crate::events::do_event;
+use crate::spans::Spans;
+use flk_base::Bytes;
+use region_pool::Ticket;
 use script_text::{Event, Vars};
 use std::alloc::Global;
 use std::marker::Model;
@@ -23,44 +17,50 @@ pub enum StepEnd {
     NoMemory,
 }
 
-/// Runs events on a board and a disk, and keeps the variables of the script. Contracts see the platform by digests. It
+/// Runs events on a board and a disk, and keeps the variables of the script and the tickets of its spans. It
 /// must be spent, by `finish`.
 pub struct Runner {
     board: Board,
     disk: SimDisk,
     vars: Vars,
+    tickets: Vec<Ticket>,
     alloc: Global,
 }
 
 impl Model for Runner {
     ghost use Rattle.std.specs.Coded.{codes};
-    ghost use Rattle.flk_run.specs.Platform.{DigestPlatform};
-    ghost use Rattle.flk_run.specs.Parts.{platform_of, table_code};
+    ghost use Rattle.flk_run.specs.Parts.{Experiment, HoldsSpans, table_code};
 
-    ghost Value = { DigestPlatform };
+    ghost Value = { Experiment };
 
     ghost coded = { Prim.hlevel (codes, table_code) };
 
-    ghost view = { λ r. platform_of r.board r.disk r.vars.table };
+    ghost view = { λ r. record { machine = record { board = r.board; disk = r.disk }; variables = r.vars.table; spans = r.tickets.items } };
+
+    ghost invariant = { λ r. HoldsSpans r.board.memory.marks r.tickets.items };
 }
 
 impl Runner {
-    ghost use Rattle.std.specs.Prelude.{◌≡◌, ◌≤◌, ◌++◌, [], true, OnOk, IsErr};
+    ghost use Rattle.std.specs.Prelude.{◌≡◌, ◌≤◌, [], ◌++◌, map};
     ghost use Rattle.std.specs.FinMap.{empty};
-    ghost use Rattle.seal_device.specs.Digests.{digests};
-    ghost use Rattle.script_text.specs.Seen.{request_of, HasShortName};
     ghost use Rattle.flk_run.specs.Tasks.{room, task_of, TakesMemory};
+    ghost use Rattle.script_text.specs.Seen.{request_of, HasShortName};
+    ghost use Rattle.flk_run.specs.Platform.{Platform};
     ghost use Rattle.flk_run.specs.Events.{after, transcript_line};
-    ghost use Rattle.flk_run.specs.Parts.{platform_of};
+    ghost use Rattle.flk_run.specs.Parts.{as_host, IsAt, HoldsSpans};
 
-    /// A runner over this board and this disk, with no name bound.
+    /// A runner over this board and disk, with no name bound and no span taken.
     pub fn new(alloc: Global, board: Board, disk: SimDisk) -> Runner
-        ensures { result ≡ platform_of board disk empty }
+        ensures board { result.machine.board ≡ board }
+        ensures disk { result.machine.disk ≡ disk }
+        ensures variables { result.variables ≡ empty }
+        ensures spans { result.spans ≡ [] }
     {
         Runner {
             board,
             disk,
             vars: Vars::new(alloc),
+            tickets: Vec::new(alloc),
             alloc,
         }
     }
@@ -69,108 +69,61 @@ impl Runner {
     /// memory before its first step.
     pub fn step(self, number: u32, event: &Event, answer: &mut Bytes) -> (Runner, StepEnd)
         requires { HasShortName (request_of event.now) }
-        // It is a step of the platform by digests.
-        ensures stepped { result.1 ≡ StepEnd.Done → result.0 ≡ after digests (request_of event.now) self }
-        ensures written { result.1 ≡ StepEnd.Done
-            → answer.new.bytes ≡ answer.old.bytes ++ transcript_line digests number (request_of event.now) self }
-        // Out of memory leaves all as it was.
+        // For every platform that the runner is at, the line is the platform's.
+        ensures written { result.1 ≡ StepEnd.Done → (p : Platform) → IsAt p self
+            → answer.new.bytes ≡ answer.old.bytes ++ transcript_line number (request_of event.now) p }
+        // And it is then at the platform after the event.
+        ensures leaves { result.1 ≡ StepEnd.Done → (p : Platform) → IsAt p self
+            → IsAt (after (request_of event.now) p) result.0 }
+        // Want of memory leaves all as it was.
         ensures kept { result.1 ≡ StepEnd.NoMemory → result.0 ≡ self }
         ensures unwritten { result.1 ≡ StepEnd.NoMemory → answer.new.bytes ≡ answer.old.bytes }
         // Where there is room for its line, memory runs out only at a task that takes some.
-        ensures want { result.1 ≡ StepEnd.NoMemory → room (task_of (request_of event.now) self.around.variables) ≤ answer.old.spare
-            → TakesMemory (task_of (request_of event.now) self.around.variables) }
+        ensures want { result.1 ≡ StepEnd.NoMemory → room (task_of (request_of event.now) self.variables) ≤ answer.old.spare
+            → TakesMemory (task_of (request_of event.now) self.variables) }
     {
         let Runner {
             mut board,
             disk,
             mut vars,
+            mut tickets,
             alloc,
         } = self;
-        match prepared(alloc, event, &mut board, &mut vars, answer) {
-            Ok(task) => {
-                let (board, done) = perform(board, &mut vars, task);
-                put_answer(answer, number, &done);
-                let runner = Runner {
-                    board,
-                    disk,
-                    vars,
-                    alloc,
-                };
-                return (runner, StepEnd::Done);
-            }
-            Err(NoMemory) => {
-                let runner = Runner {
-                    board,
-                    disk,
-                    vars,
-                    alloc,
-                };
-                return (runner, StepEnd::NoMemory);
-            }
-        }
+        let end = do_event(
+            alloc,
+            &mut board,
+            &mut vars,
+            &mut tickets,
+            number,
+            event,
+            answer,
+        );
+        let runner = Runner {
+            board,
+            disk,
+            vars,
+            tickets,
+            alloc,
+        };
+        (runner, end)
     }
 
-    /// The board and the disk, which are all that the platform has beside its variables.
-    pub fn finish(self) -> (Board, SimDisk)
-        ensures { self ≡ platform_of result.0 result.1 self.around.variables }
+    /// The board, the disk and the spans of the host.
+    pub fn finish(self) -> (Board, SimDisk, Spans)
+        ensures board { result.0 ≡ self.machine.board }
+        ensures disk { result.1 ≡ self.machine.disk }
+        ensures spans { result.2 ≡ self.spans }
+        // They are all that the platform has.
+        ensures all { (p : Platform) → IsAt p self → result.2 ≡ map as_host p.memory.spans }
+        ensures held { HoldsSpans result.0.memory.marks result.2 }
     {
         let Runner {
             board,
             disk,
             vars: _,
+            tickets,
             alloc: _,
         } = self;
-        (board, disk)
+        (board, disk, Spans { tickets })
     }
-}
-
-// What an event comes to, with room for its line, the name that it binds and its ticket: all the memory that it takes.
-fn prepared<'e>(
-    alloc: Global,
-    event: &'e Event,
-    board: &mut Board,
-    vars: &mut Vars,
-    answer: &mut Bytes,
-) -> Result<Task<'e>, NoMemory>
-    requires { HasShortName (request_of event.now) }
-    ensures task { IfOk result (λ task. seen task ≡ task_of (request_of event.now) vars.old.table) }
-    ensures named { IfOk result (λ task. IsNamed (seen task)) }
-    ensures line { IfOk result (λ task. room (seen task) ≤ answer.new.spare) }
-    ensures name { IfOk result (λ task. binds (seen task) ≡ true → 1 ≤ vars.new.spare) }
-    ensures ticket { IfOk result (λ task. takes (seen task) ≡ true → 1 ≤ board.new.spare) }
-    ensures board { board.new ≡ record board.old { spare = board.new.spare } }
-    ensures table { vars.new.table ≡ vars.old.table }
-    ensures unwritten { answer.new.bytes ≡ answer.old.bytes }
-    ensures want { IsErr result → room (task_of (request_of event.now) vars.old.table) ≤ answer.old.spare
-        → TakesMemory (task_of (request_of event.now) vars.old.table) }
-{
-    let task = task_of(alloc, event, vars)?;
-    answer.reserve(task.room())?;
-    room_for_name(&task, vars)?;
-    room_for_span(&task, board)?;
-    Ok(task)
-}
-
-// Makes room for the name that a task binds, where it binds one.
-fn room_for_name(task: &Task<'_>, vars: &mut Vars) -> Result<(), NoMemory>
-    ensures table { vars.new.table ≡ vars.old.table }
-    ensures room { OnOk result (binds (seen task.now) ≡ true → 1 ≤ vars.new.spare) }
-    ensures unwanted { binds (seen task.now) ≡ false → IsOk result }
-{
-    if task.binds() {
-        return vars.room();
-    }
-    Ok(())
-}
-
-// Makes room for the ticket that a task takes, where it takes one.
-fn room_for_span(task: &Task<'_>, board: &mut Board) -> Result<(), NoMemory>
-    ensures same { board.new ≡ record board.old { spare = board.new.spare } }
-    ensures room { OnOk result (takes (seen task.now) ≡ true → 1 ≤ board.new.spare) }
-    ensures unwanted { takes (seen task.now) ≡ false → IsOk result }
-{
-    if task.takes() {
-        return board.room();
-    }
-    Ok(())
 }

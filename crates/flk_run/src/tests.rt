@@ -1,6 +1,5 @@
 // Each public call once on its happy path, and runs over a source and a sink in memory.
-use crate::board::Board;
-use crate::disk::SimDisk;
+use crate::board::{Board, SimDisk};
 use crate::run::{ScriptFault, run_script};
 use crate::runner::{Runner, StepEnd};
 use flk_base::{Bytes, MemSink, MemSource, PutFault, RunEnd};
@@ -19,7 +18,8 @@ fn runner(rt: &HostRuntime) -> Result<Runner, Fail> {
 }
 
 fn spend(runner: Runner) {
-    let (board, disk) = runner.finish();
+    let (mut board, disk, spans) = runner.finish();
+    spans.give_all(&mut board);
     board.scrap();
     disk.scrap();
 }

@@ -6,4 +6,3 @@ pub mod DeviceWrites
 pub mod ArmedWrites
 pub mod LentParts
 pub mod LentSpans
-pub mod HostMemory

@@ -1,13 +1,10 @@
 use Rattle.std.proofs.Common.{refl, sym, ◌∙◌}
-use Rattle.std.specs.FinMap.{empty}
-use Rattle.seal_device.specs.Digests.{digests}
 use Rattle.flk_base.specs.Streams.{intake, output}
-use Rattle.flk_run.specs.Parts.{platform_of}
 use Rattle.flicker_cli.proofs.CallLemmas.{no_room}
 use Rattle.flicker_cli.proofs.top.carry_out.Goals as goal
 
 pub returns-then-is_err-clause-ran : goal.returns-then-is_err-clause-ran
 returns-then-is_err-clause-ran g c =
     let left = c.as_it_was-then-is_err.ensures in
-    rw (sym c.command_of.ensures ∙ c.in-Some.is, left.end, left.board, left.disk)
-    (no_room digests c.in-Some.command (intake g.S.Source c.args.source.now c.args.source.now) (output g.K.Sink c.args.out.now c.args.out.now) (platform_of c.args.board c.args.disk empty) refl refl refl)
+    rw (sym c.command_of.ensures ∙ c.in-Some.is, left.end, left.board, left.disk, left.spans)
+    (no_room c.in-Some.command (intake g.S.Source c.args.source.now c.args.source.now) (output g.K.Sink c.args.out.now c.args.out.now) _ refl refl)

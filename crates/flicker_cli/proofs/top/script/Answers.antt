@@ -1,19 +1,13 @@
-use Rattle.std.proofs.Common.{sym, ap, subst}
-use Rattle.seal_device.specs.Digests.{digests}
-use Rattle.flk_base.specs.Streams.{intake, output}
-use Rattle.flk_run.specs.Platform.{DigestPlatform, without_names}
-use Rattle.flk_run.specs.Runs.{Ran}
+use Rattle.std.proofs.Common.{refl, sym}
+use Rattle.flicker_cli.proofs.CallLemmas.{same_experiment, script_ran}
 use Rattle.flicker_cli.proofs.top.script.Goals as goal
 
 pub returns-clause-ran : goal.returns-clause-ran
 returns-clause-ran g c =
-    let source = intake g.S.Source c.args.source.now c.run_script-runner.new.source in
-    let out = output g.K.Sink c.args.out.now c.run_script-runner.new.out in
+    let made = c.new.ensures in
+    let left = c.finish-board.ensures in
     let new = c.run_script-runner.result.0 in
-    record {
-      how = c.run_script-runner.result.1;
-      is = c.of_script.ensures;
-      reached = new;
-      ran = subst (λ (p : DigestPlatform). Ran digests c.run_script-runner.result.1 source out p new) c.new.ensures c.run_script-runner.ensures.ran;
-      left = sym (ap without_names c.finish-board.ensures);
-    }
+    script_ran c.run_script-runner.result.1 c.of_script.result _ _ c.new.result new _ _ c.finish-board.result.2 c.of_script.ensures
+    (same_experiment c.new.result _ _ _ _ made.board made.disk made.variables made.spans)
+    (same_experiment new _ _ new.variables _ (sym left.board) (sym left.disk) refl (sym left.spans))
+    c.run_script-runner.ensures.ran
