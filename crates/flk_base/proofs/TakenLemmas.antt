@@ -15,7 +15,8 @@ known_end (Some (c ∷ cs)) = false
 abbrev pub the_end : Bool → Option (List ℕ) → Bool
 the_end seen left = cond seen true (known_end left)
 
-pub says_end : (seen : Bool) (left : Option (List ℕ)) → (seen ≡ true → IsAtEnd left) → SaysEnd (the_end seen left) left
+pub says_end : (seen : Bool) (left : Option (List ℕ)) → (seen ≡ true → IsAtEnd left)
+    → SaysEnd (the_end seen left) left
 says_end seen None h = tt
 says_end true (Some rest) h = (λ e. h refl, λ e. refl)
 says_end false (Some []) h = (λ e. refl, λ e. refl)
@@ -30,5 +31,7 @@ says_all None h = tt
 says_all (Some rest) h = (λ e. h, λ e. refl)
 
 -- bytes taken, and then more until a read failed
-pub taken_then : (a b c : Option (List ℕ)) (xs ys : List ℕ) → Consumes a b xs → TakenUntilFault b c ys → TakenUntilFault a c (xs ++ ys)
-taken_then a b c xs ys h k = record { left = k.left; consumed = Consumes-trans a b k.left xs ys h k.consumed; kept = k.kept }
+pub taken_then : (a b c : Option (List ℕ)) (xs ys : List ℕ) → Consumes a b xs
+    → TakenUntilFault b c ys → TakenUntilFault a c (xs ++ ys)
+taken_then a b c xs ys h k =
+    record { left = k.left; consumed = Consumes-trans a b k.left xs ys h k.consumed; kept = k.kept }

@@ -8,7 +8,7 @@ use Rattle.flk_base.specs.declared.hexadecimal.HexFault.TheVariants.{Odd, Digit,
 abbrev pub HasNonDigit : List ℕ → Type 0
 HasNonDigit text = Any (λ c. is_hex_digit c ≡ false) text
 
--- an odd length comes first, and want of memory never hides it
+-- an odd length comes first, and running out of memory never hides it
 abbrev pub HasHexCause : List ℕ → HexFault → Type 0
 HasHexCause text Odd = length text % 2 ≡ 1
 HasHexCause text Digit = (length text % 2 ≡ 0) × HasNonDigit text

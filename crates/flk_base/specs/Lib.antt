@@ -3,6 +3,7 @@ pub mod Causes
 pub mod Checks
 pub mod Hexadecimal
 pub mod InMemory
+pub mod Known
 pub mod PartLaws
 pub mod Parts
 pub mod Plan
@@ -11,4 +12,3 @@ pub mod RunEnds
 pub mod Stop
 pub mod StopLaws
 pub mod Streams
-pub mod Told

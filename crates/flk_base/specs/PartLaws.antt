@@ -1,6 +1,7 @@
 -- Laws of plans of parts.
 use Rattle.std.specs.Prelude.{◌≡◌, zero, suc, Bool, Option, Some, None, Result, Ok, Err}
-use Rattle.flk_base.specs.Plan.{Plan, Return, Ask, ask, Machine, ◌>>=◌, run, Throughout, AnswerAlike}
+use Rattle.flk_base.specs.Plan.{Plan, Return, Ask, ask, Machine, ◌>>=◌, run, Throughout}
+use Rattle.flk_base.specs.Plan.{AnswerAlike}
 use Rattle.flk_base.specs.PlanLaws.{run-bind, plans_alike, throughout-bind}
 use Rattle.flk_base.specs.Stop.{Limit, limited, Fused, fused, then_fused, Ends}
 use Rattle.flk_base.specs.StopLaws.{fused-bind}
@@ -46,7 +47,7 @@ abbrev one_more : Limit → Limit
 one_more None = None
 one_more (Some n) = Some (suc n)
 
--- the parts behind the first, with memory for so many, from where the first part's own plan ended
+-- the parts after the first, with memory for so many, from where the first part's own plan ended
 abbrev the_rest : {C B : Type 0} {Reply : C → Type 0} {Answer : B → Type 0} {Z X S : Type 0} →
     (C → Bool) → Machine C Reply S → ((b : B) → Plan C Reply (Answer b)) →
     (Z → Plan B Answer X) → Limit → Fused S × Option Z → Fused S × Option (Limit × Option X)

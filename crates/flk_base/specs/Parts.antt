@@ -3,7 +3,7 @@ use Rattle.std.specs.Prelude.{Bool, true, Option, Some, None, Result, Err}
 use Rattle.flk_base.specs.Plan.{Plan, Return, Ask, ◌>>=◌, Machine, run}
 use Rattle.flk_base.specs.Stop.{Limit, limited, Fused, fused, Ends}
 
--- a plan of parts as a plan of commands: each part's own plan stands in its place
+-- a plan of parts as a plan of commands: each part's own plan stands in the part's stead
 abbrev pub expanded : {C B : Type 0} {Reply : C → Type 0} {Answer : B → Type 0} {X : Type 0} →
     ((b : B) → Plan C Reply (Answer b)) → Plan B Answer X → Plan C Reply X
 expanded own (Return x) = Return x
@@ -14,7 +14,7 @@ abbrev pub by_plans : {C B : Type 0} {Reply : C → Type 0} {Answer : B → Type
     ((b : B) → Plan C Reply (Answer b)) → Machine C Reply S → Machine B Answer S
 by_plans own m b s = run m (own b) s
 
--- each part takes memory before it begins
+-- each part allocates before it begins
 abbrev pub each_part : {B : Type 0} → B → Bool
 each_part b = true
 

@@ -1,7 +1,8 @@
 -- Laws of plans on any machine. Each is an induction of two cases, and none speaks of stops: a plan
 -- that is stopped is a plan too.
 use Rattle.std.specs.Prelude.{◌≡◌}
-use Rattle.flk_base.specs.Plan.{Plan, Return, Ask, Machine, ◌>>=◌, run, Throughout, GivesOnly, EndAlike, AnswerAlike}
+use Rattle.flk_base.specs.Plan.{Plan, Return, Ask, Machine, ◌>>=◌, run, Throughout, GivesOnly}
+use Rattle.flk_base.specs.Plan.{EndAlike, AnswerAlike}
 use Rattle.std.proofs.Common.{refl, sym, subst}
 
 -- two plans, one after the other, run as the first and then, from where it ends, the second

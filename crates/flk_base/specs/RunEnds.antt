@@ -6,19 +6,20 @@ use Rattle.flk_base.specs.Causes.{Rose, IsCutBy}
 use Rattle.flk_base.specs.Streams.{Intake, Output}
 
 -- the same end, with what is wrong said in other terms
-abbrev pub mapped : {B C : Type 0} → (B → C) → RunEnd B → RunEnd C
-mapped as_other Done = Done
-mapped as_other (Bad bad) = Bad (as_other bad)
-mapped as_other ReadFault = ReadFault
-mapped as_other (Cut fault) = Cut fault
-mapped as_other NoMemory = NoMemory
+abbrev pub mapped_end : {B C : Type 0} → (B → C) → RunEnd B → RunEnd C
+mapped_end as_other Done = Done
+mapped_end as_other (Bad bad) = Bad (as_other bad)
+mapped_end as_other ReadFault = ReadFault
+mapped_end as_other (Cut fault) = Cut fault
+mapped_end as_other NoMemory = NoMemory
 
 -- the source counted a fault where a read failed, and at no other end
 abbrev pub ReadHasCause : {B : Type 0} → RunEnd B → ℕ → ℕ → Type 0
 ReadHasCause ReadFault before now = (before ≤ now) × Rose before now
 ReadHasCause other before now = now ≡ before
 
--- the sink counted a fault where a put failed, and at no other end; memory runs out in a put only where it may allocate
+-- the sink counted a fault where a put failed, and at no other end; memory runs out in a put only
+-- where it may allocate
 abbrev pub WriteHasCause : {B : Type 0} → RunEnd B → Output → Type 0
 WriteHasCause (Cut fault) out = IsCutBy fault out.may_allocate out.old.faults out.new.faults
 WriteHasCause other out = out.new.faults ≡ out.old.faults

@@ -1,7 +1,11 @@
 -- Laws of stops.
-use Rattle.std.specs.Prelude.{◌≡◌, ℕ, zero, suc, ◌+◌, ◌-◌, ◌≤◌, nat_le, Bool, true, false, Option, Some, None, List, [], ◌∷◌, ◌++◌, length, Result, Ok, Err, if◌then◌else◌}
+use Rattle.std.specs.Prelude.{◌≡◌, ℕ, zero, suc, ◌+◌, ◌-◌, ◌≤◌, nat_le, Bool, true, false, Option}
+use Rattle.std.specs.Prelude.{Some, None, List, [], ◌∷◌, ◌++◌, length, Result, Ok, Err}
+use Rattle.std.specs.Prelude.{if◌then◌else◌}
 use Rattle.flk_base.specs.Plan.{Plan, Return, Ask, Machine, ◌>>=◌, run, Throughout, GivesOnly}
-use Rattle.flk_base.specs.Stop.{Limit, spent, ask_if, limited, Fused, with_fuse, end_of, fused, then_fused, Ends, or_lost, commands, after, cost, prefix, prefix_if, price, cut}
+use Rattle.flk_base.specs.Stop.{Limit, spent, ask_if, limited, Fused, with_fuse, end_of, fused}
+use Rattle.flk_base.specs.Stop.{then_fused, Ends, or_lost, commands, after, cost, prefix, prefix_if}
+use Rattle.flk_base.specs.Stop.{price, cut}
 use Rattle.std.proofs.Common.{refl, sym, ◌∙◌, ap, subst, arith}
 
 -- two plans with a fuse, one after the other: the second has what the first left of the fuse
@@ -115,7 +119,8 @@ commands-limited {C} {Reply} {X} {S} costs m (Ask c next) n s =
           ≡ prefix costs less (commands m (next (m c s).1) (m c s).0)) →
           (paid : Bool) (n : ℕ) →
           commands m
-          (ask_if c (Some n) (λ less reply. limited costs (next reply) less) (spent paid (Some n))) s
+          (ask_if c (Some n) (λ less reply. limited costs (next reply) less) (spent paid (Some n)))
+          s
           ≡ prefix_if paid n c (λ left. prefix costs left (commands m (next (m c s).1) (m c s).0))
       by_price again false n = ap (λ rest. c ∷ rest) (again n)
       by_price again true zero = refl

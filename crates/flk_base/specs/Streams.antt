@@ -3,7 +3,7 @@ use Rattle.std.specs.Prelude.{◌≡◌, ◌↔◌, ℕ, Bool, true, List, [], �
 use Rattle.std.specs.Io.KnownBytes.{Consumes}
 use Rattle.flk_base.specs.declared.streams.Source.{Ghosts as SourceGhosts}
 use Rattle.flk_base.specs.declared.streams.Sink.{Ghosts as SinkGhosts}
-use Rattle.flk_base.specs.Told.{KeepsWhereTold}
+use Rattle.flk_base.specs.Known.{KeepsWhereKnown}
 
 -- a source: the bytes that are left, where they are known, and its count of faults
 pub record Incoming : Type 0 where
@@ -55,13 +55,15 @@ pub record Takes (before now : Option (List ℕ)) (taken : List ℕ) (ended : Bo
   pub consumed : Consumes before now taken
   pub end : SaysEnd ended now
 
--- these bytes were taken, and then a read failed: it took nothing, but the source may tell no more
+-- these bytes were taken, and then a read failed: it took nothing, but what is left may be known no
+-- more
 pub record TakenUntilFault (before now : Option (List ℕ)) (taken : List ℕ) : Type 0 where
   pub left : Option (List ℕ)
   pub consumed : Consumes before left taken
-  pub kept : KeepsWhereTold left now
+  pub kept : KeepsWhereKnown left now
 
 -- what is made of the bytes taken is this, and it is the same whatever follows them
-pub record IsSettled {X : Type 0} (made_of : List ℕ → Bool → X) (taken : List ℕ) (ended : Bool) (made : X) : Type 0 where
+pub record IsSettled {X : Type 0} (made_of : List ℕ → Bool → X) (taken : List ℕ) (ended : Bool)
+    (made : X) : Type 0 where
   pub is : made_of taken ended ≡ made
   pub stays : (more : List ℕ) → (ended ≡ true → more ≡ []) → made_of (taken ++ more) true ≡ made

@@ -5,7 +5,7 @@ ghost use Rattle.std.specs.Prelude.{◌≡◌, ◌+◌, ◌≤◌, List, [], ◌
 use std::alloc::Global;
 use std::marker::Model;
 
-/// Want of memory.
+/// Memory ran out.
 #[derive(Clone, Copy, Debug, PartialEq, Eq)]
 pub struct NoMemory;
 
@@ -23,11 +23,14 @@ impl Model for Bytes {
 
     ghost coded = { buffer_code };
 
-    ghost view = { λ b. record { bytes = b.items.items; spare = vec_capacity b.items - vec_len b.items } };
+    ghost view = { λ b. record {
+      bytes = b.items.items;
+      spare = vec_capacity b.items - vec_len b.items;
+    } };
 }
 
 impl Bytes {
-    /// No bytes, which take no memory.
+    /// No bytes. It never allocates.
     pub fn new(alloc: Global) -> Bytes
         ensures { result.bytes ≡ [] }
     {
@@ -66,7 +69,7 @@ impl Bytes {
         }
     }
 
-    /// Appends bytes for which there is room. It takes no memory.
+    /// Appends bytes for which there is room. It never allocates.
     pub fn put(&mut self, bytes: &[u8])
         requires { length bytes.now ≤ self.old.spare }
         ensures bytes { self.new.bytes ≡ self.old.bytes ++ bytes.now }

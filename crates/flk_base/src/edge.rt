@@ -2,14 +2,14 @@
 ghost use Rattle.std.specs.Prelude.{◌≡◌, ◌≢◌, false, [], Err, IsOk, OnOk, OnErr};
 ghost use Rattle.std.specs.Io.{ReadsAtMost};
 ghost use Rattle.std.specs.Io.KnownBytes.{ReadConsumes, Appends};
-ghost use Rattle.flk_base.specs.Causes.{HasCause, PutHasCause, counted};
-ghost use Rattle.flk_base.specs.Told.{AppendsPrefix, KeepsWhereTold};
+ghost use Rattle.flk_base.specs.Causes.{HasCause, PutHasCause, next_count};
+ghost use Rattle.flk_base.specs.Known.{AppendsPrefix, KeepsWhereKnown};
 
 use crate::streams::{Failed, PutFault, Sink, Source};
 use std::io::{Read, Write};
 use std::marker::Model;
 
-/// A source over a reader of std. It tells what the reader tells, also after an error.
+/// A source over a reader of std. What is known of the reader is known of it, also after an error.
 #[derive(Drop)]
 pub struct StdSource<R> {
     inner: R,
@@ -17,7 +17,7 @@ pub struct StdSource<R> {
 }
 
 impl<R> Model for StdSource<R> {
-    ghost use Rattle.flk_base.specs.Told.{Edge};
+    ghost use Rattle.flk_base.specs.Known.{Edge};
 
     ghost Value = { Edge R };
 
@@ -41,15 +41,16 @@ impl<R: Read> Source for StdSource<R> {
     fn read(&mut self, buf: &mut [u8]) -> Result<usize, Failed>
         ensures bound { ReadsAtMost result buf.new }
         ensures bytes { OnOk result
-            (ReadConsumes (R.remaining self.old.inner) (R.remaining self.new.inner) result buf.new) }
+            (ReadConsumes (R.remaining self.old.inner) (R.remaining self.new.inner) result
+            buf.new) }
         ensures kept { OnErr result
-            (KeepsWhereTold (R.remaining self.old.inner) (R.remaining self.new.inner)) }
+            (KeepsWhereKnown (R.remaining self.old.inner) (R.remaining self.new.inner)) }
         ensures cause { HasCause self.old.faults self.new.faults result }
 
         // Beside what the trait says: each error counts as one fault.
-        ensures raised { OnErr result (self.new.faults ≡ counted self.old.faults) }
-        // What the reader tells stays told at an error.
-        ensures told { ReadConsumes (R.remaining self.old.inner)
+        ensures raised { OnErr result (self.new.faults ≡ next_count self.old.faults) }
+        // What is known of the reader stays known at an error.
+        ensures known { ReadConsumes (R.remaining self.old.inner)
             (R.remaining self.new.inner) result buf.new }
     {
         match self.inner.read(buf) {
@@ -66,7 +67,7 @@ impl<R: Read> Source for StdSource<R> {
     }
 }
 
-/// A sink over a writer of std. It tells what the writer tells, also after an error.
+/// A sink over a writer of std. What is known of the writer is known of it, also after an error.
 #[derive(Drop)]
 pub struct StdSink<W> {
     inner: W,
@@ -74,7 +75,7 @@ pub struct StdSink<W> {
 }
 
 impl<W> Model for StdSink<W> {
-    ghost use Rattle.flk_base.specs.Told.{Edge};
+    ghost use Rattle.flk_base.specs.Known.{Edge};
 
     ghost Value = { Edge W };
 
@@ -106,8 +107,8 @@ impl<W: Write> Sink for StdSink<W> {
         ensures cause { PutHasCause result false self.old.faults self.new.faults }
 
         // Beside what the trait says: each error counts as one fault.
-        ensures raised { OnErr result (self.new.faults ≡ counted self.old.faults) }
-        ensures no_want { result ≢ Err PutFault.NoMemory }
+        ensures raised { OnErr result (self.new.faults ≡ next_count self.old.faults) }
+        ensures never_out_of_memory { result ≢ Err PutFault.NoMemory }
         // A piece without bytes is no fault.
         ensures empty { piece.now ≡ [] → IsOk result }
     {

@@ -1,5 +1,6 @@
 // Bytes as hexadecimal digits, by the crate `hex`.
-ghost use Rattle.std.specs.Prelude.{◌≡◌, ◌≢◌, ◌⊎◌, ◌+◌, ◌*◌, ◌≤◌, ◌%◌, ◌++◌, [], ◌∷◌, length, Ok, IsOk, IsErr, IfOk, IfErr, OnOk, OnErr};
+ghost use Rattle.std.specs.Prelude.{◌≡◌, ◌≢◌, ◌⊎◌, ◌+◌, ◌*◌, ◌≤◌, ◌%◌, ◌++◌, [], ◌∷◌, length, Ok};
+ghost use Rattle.std.specs.Prelude.{IsOk, IsErr, IfOk, IfErr, OnOk, OnErr};
 ghost use Rattle.hex.specs.Hex.{decode_of, encode_lower};
 ghost use Rattle.flk_base.specs.Hexadecimal.{HasHexCause, HasNonDigit};
 
@@ -36,8 +37,9 @@ pub fn read_hex(alloc: Global, text: &[u8]) -> Result<Bytes, HexFault>
 
 // What an even number of bytes was refused for.
 fn fault_of(error: FromHexError) -> HexFault
-    ensures want { error ≡ FromHexError.OutOfMemory → result ≡ HexFault.NoMemory }
-    ensures known { (result ≡ HexFault.NoMemory) ⊎ ((result ≡ HexFault.Digit) × (error ≢ FromHexError.OutOfMemory)) }
+    ensures out_of_memory { error ≡ FromHexError.OutOfMemory → result ≡ HexFault.NoMemory }
+    ensures either { (result ≡ HexFault.NoMemory)
+        ⊎ ((result ≡ HexFault.Digit) × (error ≢ FromHexError.OutOfMemory)) }
 {
     match error {
         FromHexError::OutOfMemory => HexFault::NoMemory,
@@ -45,8 +47,8 @@ fn fault_of(error: FromHexError) -> HexFault
     }
 }
 
-/// Appends the digits of the bytes, two a byte, in lower case, or nothing. Where there is room for them,
-/// nothing is asked for.
+/// Appends the digits of the bytes, two a byte, in lower case, or nothing. Where there is room for
+/// them, nothing is asked for.
 pub fn print_hex(out: &mut Bytes, bytes: &[u8]) -> Result<(), NoMemory>
     ensures ok { OnOk result (out.new.bytes ≡ out.old.bytes ++ encode_lower bytes.now) }
     ensures err { OnErr result (out.new.bytes ≡ out.old.bytes) }

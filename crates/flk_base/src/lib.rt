@@ -1,5 +1,6 @@
-//! What every crate of the workspace stands on: bytes that can be given room before they come, a source and a
-//! sink that count their faults, how a call over them ends, hexadecimal text, the fuse, and plans of commands.
+//! What every crate of the workspace stands on: bytes that can be given room before they come, a
+//! source and a sink that count their faults, how a call over them ends, hexadecimal text, the
+//! fuse, and plans of commands.
 #![tactic(auto)]
 
 mod buffer;
@@ -10,8 +11,6 @@ mod memory;
 mod plans;
 mod run_end;
 mod streams;
-#[cfg(test)]
-mod tests;
 
 pub use buffer::{Bytes, NoMemory};
 pub use edge::{StdSink, StdSource};

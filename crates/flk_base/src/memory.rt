@@ -1,9 +1,11 @@
-// A source and a sink in memory, which fail the calls that they are told to.
-ghost use Rattle.std.specs.Prelude.{◌≡◌, ◌+◌, ◌<◌, ◌≤◌, ◌↔◌, ◌==◌, ℕ, List, [], ◌++◌, Option, Some, true, length, drop, min, Ok, Contains, IsTrue, IsErr, IfOk, OnOk, OnErr};
+// A source and a sink in memory, which fail at the calls whose numbers they are given.
+ghost use Rattle.std.specs.Prelude.{◌≡◌, ◌+◌, ◌<◌, ◌≤◌, ◌↔◌, ◌==◌, ℕ, List, [], ◌++◌, Option, Some};
+ghost use Rattle.std.specs.Prelude.{true, length, drop, min, Ok, Contains, IsTrue, IsErr, IfOk};
+ghost use Rattle.std.specs.Prelude.{OnOk, OnErr};
 ghost use Rattle.std.specs.Io.{ReadsAtMost};
 ghost use Rattle.std.specs.Io.KnownBytes.{ReadConsumes, Appends};
-ghost use Rattle.flk_base.specs.Causes.{HasCause, PutHasCause, counted};
-ghost use Rattle.flk_base.specs.Told.{AppendsPrefix, KeepsWhereTold};
+ghost use Rattle.flk_base.specs.Causes.{HasCause, PutHasCause, next_count};
+ghost use Rattle.flk_base.specs.Known.{AppendsPrefix, KeepsWhereKnown};
 
 use crate::buffer::NoMemory;
 use crate::streams::{Failed, PutFault, Sink, Source};
@@ -39,8 +41,8 @@ impl Model for MemSource {
 }
 
 impl MemSource {
-    /// A source that gives at most `piece` bytes a read, and fails the reads whose numbers, counted from 0,
-    /// are in `failing`, and no others.
+    /// A source that gives at most `piece` bytes a read, and fails the reads whose numbers, counted
+    /// from 0, are in `failing`, and no others.
     pub fn new(
         alloc: Global,
         bytes: &[u8],
@@ -49,7 +51,13 @@ impl MemSource {
     ) -> Result<MemSource, NoMemory>
         requires { 0 < piece }
         ensures { IfOk result (λ source. source
-            ≡ record { left = bytes.now; failing = failing.now; piece = piece; calls = 0; faults = 0 }) }
+            ≡ record {
+              left = bytes.now;
+              failing = failing.now;
+              piece = piece;
+              calls = 0;
+              faults = 0;
+            }) }
     {
         let Ok(bytes) = Vec::from_slice(alloc, bytes) else {
             return Err(NoMemory);
@@ -83,17 +91,23 @@ impl Source for MemSource {
     fn read(&mut self, buf: &mut [u8]) -> Result<usize, Failed>
         requires { 0 < length buf.old }
         ensures bound { ReadsAtMost result buf.new }
-        ensures bytes { OnOk result (ReadConsumes (Some self.old.left) (Some self.new.left) result buf.new) }
-        ensures kept { OnErr result (KeepsWhereTold (Some self.old.left) (Some self.new.left)) }
+        ensures bytes { OnOk result
+            (ReadConsumes (Some self.old.left) (Some self.new.left) result buf.new) }
+        ensures kept { OnErr result (KeepsWhereKnown (Some self.old.left) (Some self.new.left)) }
         ensures cause { HasCause self.old.faults self.new.faults result }
 
-        // Beside what the trait says: which reads fail, how many bytes one gives, and what stands after it.
+        // Beside what the trait says: which reads fail, how many bytes one gives, and what stands
+        // after it.
         ensures failing { IsErr result ↔ Contains self.old.failing self.old.calls }
-        ensures count { IfOk result (λ n. n ≡ min (min (length buf.old) (length self.old.left)) self.old.piece) }
+        ensures count { IfOk result
+            (λ n. n ≡ min (min (length buf.old) (length self.old.left)) self.old.piece) }
         ensures ok { IfOk result (λ n. self.new
-            ≡ record self.old { left = drop n self.old.left; calls = counted self.old.calls }) }
+            ≡ record self.old { left = drop n self.old.left; calls = next_count self.old.calls }) }
         ensures err { OnErr result (self.new
-            ≡ record self.old { calls = counted self.old.calls; faults = counted self.old.faults }) }
+            ≡ record self.old {
+              calls = next_count self.old.calls;
+              faults = next_count self.old.faults;
+            }) }
     {
         let call = self.calls;
         self.calls = self.calls.saturating_add(1);
@@ -139,7 +153,8 @@ impl Model for MemSink {
 }
 
 impl MemSink {
-    /// An empty sink that fails the puts whose numbers, counted from 0, are in `failing`, and no others.
+    /// An empty sink that fails the puts whose numbers, counted from 0, are in `failing`, and no
+    /// others.
     pub fn new(alloc: Global, failing: &[u32]) -> Result<MemSink, NoMemory>
         ensures { IfOk result (λ sink. sink
             ≡ record { contents = []; failing = failing.now; calls = 0; faults = 0 }) }
@@ -171,17 +186,27 @@ impl Sink for MemSink {
     ghost may_allocate = { true };
 
     fn put(&mut self, piece: &[u8]) -> Result<(), PutFault>
-        ensures ok { OnOk result (Appends (Some self.old.contents) (Some self.new.contents) piece.now) }
-        ensures err { OnErr result (AppendsPrefix (Some self.old.contents) (Some self.new.contents) [] piece.now) }
+        ensures ok { OnOk result
+            (Appends (Some self.old.contents) (Some self.new.contents) piece.now) }
+        ensures err { OnErr result
+            (AppendsPrefix (Some self.old.contents) (Some self.new.contents) [] piece.now) }
         ensures cause { PutHasCause result true self.old.faults self.new.faults }
 
         // Beside what the trait says: which puts fail, and what stands after each answer.
-        ensures failing { (result ≡ Err PutFault.Failed) ↔ Contains self.old.failing self.old.calls }
+        ensures failing { (result ≡ Err PutFault.Failed)
+            ↔ Contains self.old.failing self.old.calls }
         ensures put { OnOk result (self.new
-            ≡ record self.old { contents = self.old.contents ++ piece.now; calls = counted self.old.calls }) }
+            ≡ record self.old {
+              contents = self.old.contents ++ piece.now;
+              calls = next_count self.old.calls;
+            }) }
         ensures failed { result ≡ Err PutFault.Failed → self.new
-            ≡ record self.old { calls = counted self.old.calls; faults = counted self.old.faults } }
-        ensures want { result ≡ Err PutFault.NoMemory → self.new ≡ record self.old { calls = counted self.old.calls } }
+            ≡ record self.old {
+              calls = next_count self.old.calls;
+              faults = next_count self.old.faults;
+            } }
+        ensures out_of_memory { result ≡ Err PutFault.NoMemory
+            → self.new ≡ record self.old { calls = next_count self.old.calls } }
     {
         let call = self.calls;
         self.calls = self.calls.saturating_add(1);

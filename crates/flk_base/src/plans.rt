@@ -1,8 +1,11 @@
 // Laws of plans and stops (specs/Plan, Stop, Parts). Each function does nothing: its clauses are
 // laws, which are proved because they stand here. A fact is a test here, and replies have one type.
-ghost use Rattle.std.specs.Prelude.{◌≡◌, ℕ, ◌+◌, ◌≤◌, Bool, IsTrue, Some, None, Result, Ok, Err, List, ◌++◌, length};
-ghost use Rattle.flk_base.specs.Plan.{Plan, ask, Ask, Machine, run, followed_by, Throughout, EndAlike, AnswerAlike};
-ghost use Rattle.flk_base.specs.Stop.{Fused, with_fuse, limited, fused, then_fused, Ends, or_lost, commands, after, cost, prefix, cut};
+ghost use Rattle.std.specs.Prelude.{◌≡◌, ℕ, ◌+◌, ◌≤◌, Bool, IsTrue, Some, None, Result, Ok, Err};
+ghost use Rattle.std.specs.Prelude.{List, ◌++◌, length};
+ghost use Rattle.flk_base.specs.Plan.{Plan, ask, Ask, Machine, run, followed_by, Throughout};
+ghost use Rattle.flk_base.specs.Plan.{EndAlike, AnswerAlike};
+ghost use Rattle.flk_base.specs.Stop.{Fused, with_fuse, limited, fused, then_fused, Ends, or_lost};
+ghost use Rattle.flk_base.specs.Stop.{commands, after, cost, prefix, cut};
 ghost use Rattle.flk_base.specs.Parts.{expanded, by_plans, reported_in_parts, EndsInParts};
 
 /// Two plans, one after the other, run as the first does and then, from the state where it ends, as

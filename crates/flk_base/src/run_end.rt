@@ -1,7 +1,8 @@
 // How a call that reads a source and writes a sink ended.
 use crate::streams::PutFault;
 
-/// How a call that reads a source and writes a sink ended. `B` is what may be wrong with what was read.
+/// How a call that reads a source and writes a sink ended. `B` is what may be wrong with what was
+/// read.
 #[derive(Clone, Copy, Debug, PartialEq, Eq)]
 pub enum RunEnd<B> {
     /// All was read, done and written.

@@ -7,7 +7,8 @@ use Rattle.flk_filters.specs.Filters.{most_input}
 use Rattle.flk_filters.specs.Inputs.{TakesInput}
 
 -- the end was read
-pub takes_all : (source source' : Option (List ℕ)) (taken : List ℕ) → Consumes source source' taken → IsAtEnd source' → length taken ≤ most_input + 1 → TakesInput source source' taken
+pub takes_all : (source source' : Option (List ℕ)) (taken : List ℕ) → Consumes source source' taken
+    → IsAtEnd source' → length taken ≤ most_input + 1 → TakesInput source source' taken
 takes_all source source' taken consumed end few = record {
   ended = true;
   takes = record { consumed = consumed; end = says_all source' end };
@@ -15,7 +16,8 @@ takes_all source source' taken consumed end few = record {
 }
 
 -- there is one byte more than an input may have
-pub takes_long : (source source' : Option (List ℕ)) (taken : List ℕ) → Consumes source source' taken → length taken ≡ most_input + 1 → TakesInput source source' taken
+pub takes_long : (source source' : Option (List ℕ)) (taken : List ℕ) → Consumes source source' taken
+    → length taken ≡ most_input + 1 → TakesInput source source' taken
 takes_long source source' taken consumed long = record {
   ended = the_end false source';
   takes = record { consumed = consumed; end = says_end false source' (λ seen. absurd (cc)) };

@@ -1,5 +1,5 @@
--- The filters, the commands that read their whole input: why an input is not of a filter's form, and what is written of
--- one that is.
+-- The filters, the commands that read their whole input: why an input is not of a filter's form,
+-- and what is written of one that is.
 use Rattle.std.specs.Prelude.{◌≡◌, ℕ, ◌==◌, ◌||◌, not, nat_lt, Bool, List, [], ◌++◌, length, filter, codes, Option, Some, None, Result, Ok, Err, IsOk, if◌then◌else◌}
 use Rattle.hex.specs.Hex.{decode_of, encode_lower}
 use Rattle.sha1.specs.Sha1.{sha1}
@@ -12,6 +12,7 @@ use Rattle.pal_asm.specs.Lines.{lines}
 use Rattle.pal_asm.specs.Statements.{most_code}
 use Rattle.pal_asm.specs.Assembling.{code_of, line_alone, first_tokens}
 use Rattle.pal_asm.specs.Listing.{Lists}
+use Rattle.flk_filters.specs.declared.input.TheConstants.{MOST_INPUT}
 use Rattle.flk_filters.specs.declared.filter.Filter.{Filter}
 use Rattle.flk_filters.specs.declared.filter.Filter.TheVariants.{Asm, Dis, Measure}
 use Rattle.flk_filters.specs.declared.fault.BadInput.{BadInput}
@@ -19,7 +20,7 @@ use Rattle.flk_filters.specs.declared.fault.BadInput.TheVariants.{TooLong, Hex, 
 
 -- the most bytes that an input may have
 abbrev pub most_input : ℕ
-most_input = 1048576
+most_input = MOST_INPUT
 
 -- the bytes, where there are no more than so many
 abbrev pub at_most : ℕ → List ℕ → Result (List ℕ) BadInput
@@ -36,13 +37,13 @@ abbrev pub without_spaces : List ℕ → List ℕ
 without_spaces text = filter (λ c. not (is_space c)) text
 
 -- what digits spell, or that they spell nothing
-abbrev pub spelled : {E : Type 0} → Result (List ℕ) E → Result (List ℕ) BadInput
-spelled (Ok bytes) = Ok bytes
-spelled (Err e) = Err Hex
+abbrev pub or_bad_hex : {E : Type 0} → Result (List ℕ) E → Result (List ℕ) BadInput
+or_bad_hex (Ok bytes) = Ok bytes
+or_bad_hex (Err e) = Err Hex
 
 -- the bytes that the digits of a text spell, two a byte; spaces may stand anywhere among them
 abbrev pub hex_of : List ℕ → Result (List ℕ) BadInput
-hex_of text = spelled (decode_of (without_spaces text))
+hex_of text = or_bad_hex (decode_of (without_spaces text))
 
 -- the bytes that the digits of an input spell
 abbrev pub hex_in : List ℕ → Result (List ℕ) BadInput
@@ -56,8 +57,8 @@ code_line (Ok code) = Ok (encode_lower code ++ codes "\n")
 code_line (Err fault) = Err (Assembly fault)
 
 -- the line that `asm` writes: the code of the text
-abbrev pub assembled : List ℕ → Result (List ℕ) BadInput
-assembled input = at_most most_input input >>= λ text. code_line (code_of text)
+abbrev pub assembly_text : List ℕ → Result (List ℕ) BadInput
+assembly_text input = at_most most_input input >>= λ text. code_line (code_of text)
 
 -- ---- dis
 
@@ -73,13 +74,13 @@ IsListing (Err bad) text = text ≡ []
 -- ---- measure
 
 -- the image, where the bytes are one
-abbrev pub imaged : List ℕ → Option ImageFault → Result (List ℕ) BadInput
-imaged bytes None = Ok bytes
-imaged bytes (Some fault) = Err (NotImage fault)
+abbrev pub or_no_image : List ℕ → Option ImageFault → Result (List ℕ) BadInput
+or_no_image bytes None = Ok bytes
+or_no_image bytes (Some fault) = Err (NotImage fault)
 
 -- the image that `measure` measures
 abbrev pub image_in : List ℕ → Result (List ℕ) BadInput
-image_in input = hex_in input >>= λ bytes. imaged bytes (image_fault bytes)
+image_in input = hex_in input >>= λ bytes. or_no_image bytes (image_fault bytes)
 
 -- what register 17 shows once a late launch has reset it and measured the image
 abbrev pub launch_value : List ℕ → List ℕ
@@ -88,11 +89,12 @@ launch_value image = value (launch_chain ▷ image)
 -- two lines: the digest of the image, and what register 17 shows after its launch
 abbrev pub measures : List ℕ → List ℕ
 measures image =
-    codes "sha1 " ++ encode_lower (sha1 image) ++ codes "\n" ++ codes "launch " ++ encode_lower (launch_value image) ++ codes "\n"
+    codes "sha1 " ++ encode_lower (sha1 image) ++ codes "\n"
+    ++ codes "launch " ++ encode_lower (launch_value image) ++ codes "\n"
 
 -- the lines that `measure` writes
-abbrev pub measured : List ℕ → Result (List ℕ) BadInput
-measured input = image_in input >>= λ image. Ok (measures image)
+abbrev pub measure_text : List ℕ → Result (List ℕ) BadInput
+measure_text input = image_in input >>= λ image. Ok (measures image)
 
 -- ---- each filter
 
@@ -103,9 +105,9 @@ fault_of (Err bad) = Some bad
 
 -- why the input is not of the filter's form
 abbrev pub fault_in : Filter → List ℕ → Option BadInput
-fault_in Asm input = fault_of (assembled input)
+fault_in Asm input = fault_of (assembly_text input)
 fault_in Dis input = fault_of (code_in input)
-fault_in Measure input = fault_of (measured input)
+fault_in Measure input = fault_of (measure_text input)
 
 -- what there is without a fault
 abbrev pub or_nothing : Result (List ℕ) BadInput → List ℕ
@@ -114,16 +116,17 @@ or_nothing (Err bad) = []
 
 -- the filter writes this text of the input, and nothing where the input has a fault
 abbrev pub Filters : Filter → List ℕ → List ℕ → Type 0
-Filters Asm input text = text ≡ or_nothing (assembled input)
+Filters Asm input text = text ≡ or_nothing (assembly_text input)
 Filters Dis input text = IsListing (code_in input) text
-Filters Measure input text = text ≡ or_nothing (measured input)
+Filters Measure input text = text ≡ or_nothing (measure_text input)
 
 -- ---- memory
 
--- memory may run out over an input only where it has none of the faults that are found before any is taken: of an
--- assembler text these are its length and what is wrong with its first line that is not blank by itself, of code all,
--- of an image those of its digits
+-- memory may run out over an input only where it has none of the faults that are found before
+-- anything is allocated: of an assembler text these are its length and what is wrong with its first
+-- line that is not blank by itself, of code all, of an image those of its digits
 abbrev pub MayRunOut : Filter → List ℕ → Type 0
-MayRunOut Asm input = IsOk (at_most most_input input) × IsOk (line_alone (first_tokens (lines input)))
+MayRunOut Asm input =
+    IsOk (at_most most_input input) × IsOk (line_alone (first_tokens (lines input)))
 MayRunOut Dis input = IsOk (code_in input)
 MayRunOut Measure input = IsOk (hex_in input)

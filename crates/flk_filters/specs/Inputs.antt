@@ -1,7 +1,7 @@
 -- What a filter took from its source and wrote on its sink, for each way that it can end.
 use Rattle.std.specs.Prelude.{◌≡◌, ◌≢◌, ◌⊎◌, ℕ, ◌+◌, ◌≤◌, List, [], length, Bool, true, Option, Some, None}
 use Rattle.std.specs.Io.KnownBytes.{Appends}
-use Rattle.flk_base.specs.Told.{AppendsPrefix}
+use Rattle.flk_base.specs.Known.{AppendsPrefix}
 use Rattle.flk_base.specs.Streams.{Intake, Output, Takes, TakenUntilFault}
 use Rattle.flk_base.specs.declared.run_end.RunEnd.{RunEnd}
 use Rattle.flk_base.specs.declared.run_end.RunEnd.TheVariants.{Done, Bad, ReadFault, Cut, NoMemory}
@@ -68,10 +68,12 @@ module _ (which : Filter) (source source' out out' : Option (List ℕ)) where
     pub may : MayRunOut which taken
     pub unwritten : out' ≡ out
 
--- what a filter that ended so took and wrote; memory may also run out before anything is asked of the source
+-- what a filter that ended so took and wrote; memory may also run out before anything is asked of
+-- the source
 abbrev pub FilterRan : Filter → RunEnd BadInput → Intake → Output → Type 0
 FilterRan which Done s o = Filtered which s.old.left s.new.left o.old.contents o.new.contents
-FilterRan which (Bad bad) s o = Refused which s.old.left s.new.left o.old.contents o.new.contents bad
+FilterRan which (Bad bad) s o =
+    Refused which s.old.left s.new.left o.old.contents o.new.contents bad
 FilterRan which ReadFault s o = InputCut which s.old.left s.new.left o.old.contents o.new.contents
 FilterRan which (Cut fault) s o = TextCut which s.old.left s.new.left o.old.contents o.new.contents
 FilterRan which NoMemory s o =

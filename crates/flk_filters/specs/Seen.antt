@@ -3,7 +3,7 @@ use Rattle.std.specs.Prelude.{◌≡◌, ◌≢◌, ◌⊎◌, ℕ, ◌+◌, ◌
 use Rattle.std.specs.Io.KnownBytes.{Appends, Consumes, IsAtEnd}
 use Rattle.flk_base.specs.Buffer.{Buffer}
 use Rattle.flk_base.specs.Checks.{◌>>=◌}
-use Rattle.flk_base.specs.Told.{AppendsPrefix}
+use Rattle.flk_base.specs.Known.{AppendsPrefix}
 use Rattle.flk_base.specs.declared.run_end.RunEnd.{RunEnd}
 use Rattle.flk_base.specs.declared.run_end.RunEnd.TheVariants.{Done, Cut}
 use Rattle.slb_image.specs.Faults.{image_fault}
@@ -11,7 +11,7 @@ use Rattle.flk_filters.specs.declared.filter.Filter.{Filter}
 use Rattle.flk_filters.specs.declared.fault.BadInput.{BadInput}
 use Rattle.flk_filters.specs.declared.fault.FilterFault.{FilterFault}
 use Rattle.flk_filters.specs.declared.fault.FilterFault.TheVariants.{Bad, NoMemory}
-use Rattle.flk_filters.specs.Filters.{most_input, imaged, measures, fault_in, MayRunOut}
+use Rattle.flk_filters.specs.Filters.{most_input, or_no_image, measures, fault_in, MayRunOut}
 use Rattle.flk_filters.specs.Inputs.{Makes}
 
 -- the fault that an error stands for: none where memory ran out
@@ -26,7 +26,7 @@ size_of (Err bad) = Err bad
 
 -- the lines of the bytes, where they are an image
 abbrev pub image_lines : List ℕ → Result (List ℕ) BadInput
-image_lines bytes = imaged bytes (image_fault bytes) >>= λ image. Ok (measures image)
+image_lines bytes = or_no_image bytes (image_fault bytes) >>= λ image. Ok (measures image)
 
 -- what the filter makes of the input, or why it is not of its form; or memory ran out, where it may
 abbrev pub GivesText : Filter → List ℕ → Result Buffer FilterFault → Type 0
@@ -35,7 +35,8 @@ GivesText which input (Err (Bad bad)) = fault_in which input ≡ Some bad
 GivesText which input (Err NoMemory) = MayRunOut which input
 
 -- a read gave a piece that has bytes, or the end
-pub record TakesPiece (more : Bool) (old new : List ℕ) (source source' : Option (List ℕ)) : Type 0 where
+pub record TakesPiece (more : Bool) (old new : List ℕ)
+    (source source' : Option (List ℕ)) : Type 0 where
   pub piece : List ℕ
   pub consumed : Consumes source source' piece
   pub bytes : new ≡ old ++ piece

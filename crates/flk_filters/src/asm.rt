@@ -21,7 +21,7 @@ fn code_line(alloc: Global, code: &[u8]) -> Result<Bytes, NoMemory>
 }
 
 /// The line that `asm` writes.
-pub(crate) fn assembled(alloc: Global, input: &[u8]) -> Result<Bytes, FilterFault>
+pub(crate) fn assembly_text(alloc: Global, input: &[u8]) -> Result<Bytes, FilterFault>
     ensures { GivesText Filter.Asm input.now result }
 {
     if input.len() > MOST_INPUT {

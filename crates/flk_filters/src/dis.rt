@@ -7,13 +7,10 @@ use crate::fault::{BadInput, FilterFault};
 use crate::filter::Filter;
 use crate::hexadecimal::{hex_of, input_size};
 use flk_base::{Bytes, NoMemory};
-use pal_asm::disassemble;
+use pal_asm::{MOST_CODE, disassemble};
 use std::alloc::Global;
 
-/// The most bytes of code that are listed.
-const MOST_CODE: usize = 49_120;
-
-// Why an input spells no code to be listed, if so. It takes no memory.
+// Why an input spells no code to be listed, if so. It allocates nothing.
 fn code_fault(input: &[u8]) -> Option<BadInput>
     ensures { result ≡ fault_of (code_in input.now) }
 {
@@ -34,7 +31,7 @@ fn listing(alloc: Global, input: &[u8]) -> Result<Bytes, NoMemory>
 }
 
 /// The listing that `dis` writes.
-pub(crate) fn listed(alloc: Global, input: &[u8]) -> Result<Bytes, FilterFault>
+pub(crate) fn listing_text(alloc: Global, input: &[u8]) -> Result<Bytes, FilterFault>
     ensures { GivesText Filter.Dis input.now result }
 {
     if let Some(bad) = code_fault(input) {

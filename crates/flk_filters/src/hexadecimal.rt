@@ -36,7 +36,7 @@ fn digit_count(text: &[u8]) -> usize
     text.iter().filter(|c| !is_space(**c)).count()
 }
 
-// How many bytes the digits of a text spell, or that they spell none. It takes no memory.
+// How many bytes the digits of a text spell, or that they spell none. It allocates nothing.
 fn spelled_size(text: &[u8]) -> Result<usize, BadInput>
     ensures { result ≡ size_of (hex_of text.now) }
 {
@@ -50,7 +50,7 @@ fn spelled_size(text: &[u8]) -> Result<usize, BadInput>
     Ok(count / 2)
 }
 
-/// How many bytes the digits of an input spell, or why they spell none. It takes no memory.
+/// How many bytes the digits of an input spell, or why they spell none. It allocates nothing.
 pub(crate) fn input_size(input: &[u8]) -> Result<usize, BadInput>
     ensures { result ≡ size_of (hex_in input.now) }
 {

@@ -1,5 +1,6 @@
-//! The filters of `flicker`, the commands that read their whole input: `asm` from an assembler text to its code, `dis` from
-//! code to its listing, and `measure` from an image to its digest and to what register 17 shows after its launch.
+//! The filters of `flicker`, the commands that read their whole input: `asm` from an assembler text
+//! to its code, `dis` from code to its listing, and `measure` from an image to its digest and to
+//! what register 17 shows after its launch.
 #![tactic(auto)]
 
 mod asm;

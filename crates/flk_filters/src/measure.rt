@@ -13,7 +13,8 @@ use sha1::Sha1;
 use slb_image::view;
 use std::alloc::Global;
 
-// What register 17 shows after the launch of an image: SHA-1 of 20 bytes 00 and of the image's digest.
+// What register 17 shows after the launch of an image: SHA-1 of 20 bytes 00 and of the image's
+// digest.
 fn launch_value(image: &[u8]) -> [u8; 20]
     ensures { result ≡ launch_value image.now }
 {
@@ -25,7 +26,8 @@ fn launch_value(image: &[u8]) -> [u8; 20]
 
 // Appends a word, a space, the digits of a value, and LF.
 fn put_value(lines: &mut Bytes, word: &[u8], value: &[u8; 20]) -> Result<(), NoMemory>
-    ensures { OnOk result (lines.new.bytes ≡ lines.old.bytes ++ word.now ++ encode_lower value.now ++ codes "\n") }
+    ensures { OnOk result (lines.new.bytes ≡ lines.old.bytes ++ word.now ++ encode_lower value.now
+        ++ codes "\n") }
 {
     lines.push_all(word)?;
     print_hex(lines, value)?;
@@ -56,7 +58,7 @@ fn measures_of(alloc: Global, bytes: &[u8]) -> Result<Bytes, FilterFault>
 }
 
 /// The lines that `measure` writes.
-pub(crate) fn measured(alloc: Global, input: &[u8]) -> Result<Bytes, FilterFault>
+pub(crate) fn measure_text(alloc: Global, input: &[u8]) -> Result<Bytes, FilterFault>
     ensures { GivesText Filter.Measure input.now result }
 {
     if let Err(bad) = input_size(input) {

@@ -4,17 +4,17 @@ ghost use Rattle.flk_base.specs.RunEnds.{HasCauses, WriteHasCause};
 ghost use Rattle.flk_filters.specs.Inputs.{FilterRan};
 ghost use Rattle.flk_filters.specs.Seen.{GivesText, TextWritten};
 
-use crate::asm::assembled;
-use crate::dis::listed;
+use crate::asm::assembly_text;
+use crate::dis::listing_text;
 use crate::fault::{BadInput, FilterFault};
 use crate::filter::Filter;
 use crate::input::{read_buffer, read_input, room_for_input};
-use crate::measure::measured;
+use crate::measure::measure_text;
 use flk_base::{Bytes, RunEnd, Sink, Source};
 use std::alloc::Global;
 
-/// Reads the whole input, and writes what the filter makes of it by one put. Of an input that is not of its form nothing is
-/// written. All memory that reading takes is taken before the first read.
+/// Reads the whole input, and writes what the filter makes of it by one put. Of an input that is
+/// not of its form nothing is written. All that reading needs is allocated before the first read.
 pub fn run_filter<S: Source, K: Sink>(
     alloc: Global,
     filter: Filter,
@@ -22,9 +22,11 @@ pub fn run_filter<S: Source, K: Sink>(
     out: &mut K,
 ) -> RunEnd<BadInput>
     // What was taken and written.
-    ensures ran { FilterRan filter result (intake S.Source source.old source.new) (output K.Sink out.old out.new) }
+    ensures ran { FilterRan filter result (intake S.Source source.old source.new)
+        (output K.Sink out.old out.new) }
     // No fault is passed over, or reported as another end.
-    ensures caused { HasCauses result (intake S.Source source.old source.new) (output K.Sink out.old out.new) }
+    ensures caused { HasCauses result (intake S.Source source.old source.new)
+        (output K.Sink out.old out.new) }
 {
     let Ok(mut buffer) = read_buffer(alloc) else {
         return RunEnd::NoMemory;
@@ -48,9 +50,9 @@ fn text_of(alloc: Global, filter: Filter, input: &[u8]) -> Result<Bytes, FilterF
     ensures { GivesText filter input.now result }
 {
     match filter {
-        Filter::Asm => assembled(alloc, input),
-        Filter::Dis => listed(alloc, input),
-        Filter::Measure => measured(alloc, input),
+        Filter::Asm => assembly_text(alloc, input),
+        Filter::Dis => listing_text(alloc, input),
+        Filter::Measure => measure_text(alloc, input),
     }
 }
 

@@ -9,7 +9,11 @@ length-digest_bytes : (h : List ℕ) (n : ℕ) → length (digest_bytes h n) ≡
 unfolding digest_bytes
 length-digest_bytes h zero = refl
 length-digest_bytes h (suc n) =
-    omega (arith, length-append (digest_bytes h n) (to_be_bytes w32 (slice_index h n)), length-digest_bytes h n)
+    omega (
+      arith,
+      length-append (digest_bytes h n) (to_be_bytes w32 (slice_index h n)),
+      length-digest_bytes h n,
+    )
 
 pub length-sha1 : (m : List ℕ) → length (sha1 m) ≡ 20
 unfolding sha1

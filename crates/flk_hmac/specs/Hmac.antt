@@ -1,5 +1,6 @@
 -- HMAC (RFC 2104, section 2) over SHA-1, whose blocks have 64 bytes.
-use Rattle.std.specs.Prelude.{◌≡◌, ℕ, ◌-◌, List, ◌++◌, length, map, replicate, nat_lt, bit_xor, if◌then◌else◌}
+use Rattle.std.specs.Prelude.{◌≡◌, ℕ, ◌-◌, List, ◌++◌, length, map, replicate, nat_lt, bit_xor}
+use Rattle.std.specs.Prelude.{if◌then◌else◌}
 use Rattle.sha1.specs.Sha1 as hash
 use Rattle.sha1.specs.Sha1.{sha1}
 use Rattle.flk_hmac.specs.declared.hmac.Hmac.{Hmac}
@@ -21,12 +22,13 @@ unfoldable pub block_key : List ℕ → List ℕ
 block_key key = short_key key ++ replicate (64 - length (short_key key)) 0
 
 -- a block with each byte exclusive-or a pad byte (steps 2 and 5)
-unfoldable pub xored : List ℕ → ℕ → List ℕ
-xored block pad = map (λ byte. bit_xor byte pad) block
+unfoldable pub padded_block : List ℕ → ℕ → List ℕ
+padded_block block pad = map (λ byte. bit_xor byte pad) block
 
 -- the HMAC of a text: H(K XOR opad, H(K XOR ipad, text)) (steps 3, 4, 6 and 7)
 unfoldable pub mac : List ℕ → List ℕ → List ℕ
-mac key text = sha1 (xored (block_key key) opad ++ sha1 (xored (block_key key) ipad ++ text))
+mac key text =
+    sha1 (padded_block (block_key key) opad ++ sha1 (padded_block (block_key key) ipad ++ text))
 
 -- the key that a seed gives for a label
 abbrev pub derive : List ℕ → List ℕ → List ℕ
@@ -34,4 +36,5 @@ derive seed label = mac seed label
 
 -- the state under a key, after a text
 unfoldable pub Holds : Hmac → List ℕ → List ℕ → Type 0
-Holds hmac key text = (hmac.block ≡ block_key key) × hash.Holds hmac.inner (xored (block_key key) ipad ++ text)
+Holds hmac key text =
+    (hmac.block ≡ block_key key) × hash.Holds hmac.inner (padded_block (block_key key) ipad ++ text)

@@ -1,6 +1,6 @@
 //! HMAC-SHA-1 (RFC 2104).
 ghost use Rattle.std.specs.Prelude.{◌≡◌, ℕ, ◌-◌, ◌≤◌, List, [], ◌++◌, length, replicate};
-ghost use Rattle.flk_hmac.specs.Hmac.{Holds, block_key, xored, mac, derive};
+ghost use Rattle.flk_hmac.specs.Hmac.{Holds, block_key, padded_block, mac, derive};
 
 use sha1::Sha1;
 
@@ -12,7 +12,7 @@ const IPAD: u8 = 0x36;
 const OPAD: u8 = 0x5c;
 
 /// A key of at most a block, with zeros after it.
-fn zero_padded(key: &[u8]) -> [u8; BLOCK_LEN]
+fn zero_padded_key(key: &[u8]) -> [u8; BLOCK_LEN]
     requires { length key.now ≤ 64 }
     ensures { result ≡ key.now ++ replicate (64 - length key.now) 0 }
 {
@@ -27,16 +27,16 @@ fn key_block(key: &[u8]) -> [u8; BLOCK_LEN]
     ensures { result ≡ block_key key.now }
 {
     if key.len() > BLOCK_LEN {
-        zero_padded(&Sha1::digest(key))
+        zero_padded_key(&Sha1::digest(key))
     } else {
-        zero_padded(key)
+        zero_padded_key(key)
     }
 }
 
 /// The block with each byte exclusive-or the pad byte.
-#[tactic(auto, unfolding(crate::specs::Hmac::xored))]
-fn xored(block: &[u8; BLOCK_LEN], pad: u8) -> [u8; BLOCK_LEN]
-    ensures { result ≡ xored block.now pad }
+#[tactic(auto, unfolding(crate::specs::Hmac::padded_block))]
+fn padded_block(block: &[u8; BLOCK_LEN], pad: u8) -> [u8; BLOCK_LEN]
+    ensures { result ≡ padded_block block.now pad }
 {
     let mut out = *block;
     for byte in out.iter_mut() {
@@ -60,7 +60,7 @@ impl Hmac {
     {
         let block = key_block(key);
         let mut inner = Sha1::new();
-        inner.update(&xored(&block, IPAD));
+        inner.update(&padded_block(&block, IPAD));
         Hmac { block, inner }
     }
 
@@ -77,7 +77,7 @@ impl Hmac {
         ensures { (key text : List ℕ) → Holds self key text → result ≡ mac key text }
     {
         let mut outer = Sha1::new();
-        outer.update(&xored(&self.block, OPAD));
+        outer.update(&padded_block(&self.block, OPAD));
         outer.update(&self.inner.finalize());
         outer.finalize()
     }

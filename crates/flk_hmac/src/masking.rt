@@ -1,8 +1,9 @@
 //! A mask over bytes. Each block of 20 bytes has its own, the HMAC of a serial number and of the
 //! number of the block.
-ghost use Rattle.std.specs.Prelude.{◌≡◌, ℕ, ◌++◌, ◌*◌, ◌≤◌, ◌<◌, ◌^◌, List, length, slice_index, EachIndex, bit_xor};
+ghost use Rattle.std.specs.Prelude.{◌≡◌, ℕ, ◌++◌, ◌*◌, ◌≤◌, ◌<◌, ◌^◌, List, length, slice_index};
+ghost use Rattle.std.specs.Prelude.{EachIndex, bit_xor};
 ghost use Rattle.byteorder.specs.Endian.{big_bytes};
-ghost use Rattle.flk_hmac.specs.Mask.{masked};
+ghost use Rattle.flk_hmac.specs.Mask.{masked_bytes};
 
 use crate::hmac::mac;
 use byteorder::{BigEndian, ByteOrder};
@@ -32,11 +33,11 @@ fn mask_part(part: &mut [u8], block: &[u8; MASK_LEN])
 }
 
 /// Masks `bytes`, which are at most 2^32 blocks of 20 bytes: block i, counted from 0, is
-/// exclusive-ored with the HMAC of the serial number in 8 bytes and of i in 4, both with the highest
-/// byte first. The last block may be shorter. Masking twice gives the bytes back.
+/// exclusive-ored with the HMAC of the serial number in 8 bytes and of i in 4, both with the
+/// highest byte first. The last block may be shorter. Masking twice gives the bytes back.
 pub fn mask(key: &[u8; 20], serial: u64, bytes: &mut [u8])
     requires { length bytes.old ≤ 20 * 2 ^ 32 }
-    ensures { bytes.new ≡ masked key.now serial bytes.old }
+    ensures { bytes.new ≡ masked_bytes key.now serial bytes.old }
 {
     for block in 0..bytes.len().div_ceil(MASK_LEN) {
         let start = MASK_LEN * block;
@@ -51,7 +52,7 @@ pub fn mask(key: &[u8; 20], serial: u64, bytes: &mut [u8])
 /// The law of the mask: masking twice gives the bytes back, and the length stays.
 pub fn mask_law()
     ensures twice { (key bytes : List ℕ) (serial : ℕ)
-        → masked key serial (masked key serial bytes) ≡ bytes }
+        → masked_bytes key serial (masked_bytes key serial bytes) ≡ bytes }
     ensures same_length { (key bytes : List ℕ) (serial : ℕ)
-        → length (masked key serial bytes) ≡ length bytes }
+        → length (masked_bytes key serial bytes) ≡ length bytes }
 {}

@@ -1,9 +1,9 @@
 -- What is spelled is read, whatever follows.
 use Rattle.std.proofs.Common.{◌≡◌, ℕ, ◌+◌, ◌<◌, List, ◌∷◌, ◌++◌, Some, refl, append_assoc, arith, inl, inr}
 use Rattle.i386_profile.specs.declared.operands.Reg.{Reg}
-use Rattle.i386_profile.specs.declared.operands.Reg.TheVariants.{Eax, Ecx, Edx, Ebx, Esp, Ebp, Esi, Edi}
+use Rattle.i386_profile.specs.declared.operands.Reg.TheVariants.{Eax}
 use Rattle.i386_profile.specs.declared.operands.ByteReg.{ByteReg}
-use Rattle.i386_profile.specs.declared.operands.ByteReg.TheVariants.{Al, Cl, Dl, Bl}
+use Rattle.i386_profile.specs.declared.operands.ByteReg.TheVariants.{Al}
 use Rattle.i386_profile.specs.declared.operands.Rm.TheVariants as rms
 use Rattle.i386_profile.specs.declared.ins.AluOp.{AluOp}
 use Rattle.i386_profile.specs.declared.ins.AluOp.TheVariants.{Add, Or, And, Sub, Xor, Cmp}
@@ -12,7 +12,7 @@ use Rattle.i386_profile.specs.declared.ins.ShiftOp.TheVariants.{Shl, Shr, Sar}
 use Rattle.i386_profile.specs.declared.ins.UnaryOp.{UnaryOp}
 use Rattle.i386_profile.specs.declared.ins.UnaryOp.TheVariants.{Not, Neg, Mul, Div}
 use Rattle.i386_profile.specs.declared.ins.Cond.{Cond}
-use Rattle.i386_profile.specs.declared.ins.Cond.TheVariants.{O, No, B, Ae, E, Ne, Be, A, S, Ns, L, Ge, Le, G}
+use Rattle.i386_profile.specs.declared.ins.Cond.TheVariants.{O}
 use Rattle.i386_profile.specs.declared.ins.Ins.{Ins}
 use Rattle.i386_profile.specs.declared.ins.Ins.TheVariants.{Load, Put, MovTo, MovFrom, ByteTo, ByteFrom, Widen, WidenReg, Lea, Alu, AluFrom, AluImm, Test, Inc, Dec, Push, Pop, PushImm, Shift, Imul, Unary, Jmp, Jcc, Call, Ret, Gate, Nop}
 use Rattle.i386_profile.specs.Codes.{whole_of, reg_code, alu_code, alu_opcode, alu_from_opcode, shift_code, unary_code, cond_code}
@@ -23,112 +23,59 @@ use Rattle.i386_profile.proofs.ModRm.{operands_again}
 
 -- ---- opcodes that have a register, an operation or a condition in them
 
-load_again : (r : Reg) (x : List ℕ) → instruction_at ((0xB8 + reg_code r) ∷ x) ≡ (doubleword_at x >>= λ n. Some (Load r n.0, n.1))
+load_again : (r : Reg) (x : List ℕ)
+    → instruction_at ((0xB8 + reg_code r) ∷ x) ≡ (doubleword_at x >>= λ n. Some (Load r n.0, n.1))
 unfolding instruction_at middle_at immediate_at
 load_again Eax x = refl
-load_again Ecx x = refl
-load_again Edx x = refl
-load_again Ebx x = refl
-load_again Esp x = refl
-load_again Ebp x = refl
-load_again Esi x = refl
-load_again Edi x = refl
+load_again _ x = refl
 
 inc_again : (r : Reg) (x : List ℕ) → instruction_at ((0x40 + reg_code r) ∷ x) ≡ Some (Inc r, x)
 unfolding instruction_at low_at register_at
 inc_again Eax x = refl
-inc_again Ecx x = refl
-inc_again Edx x = refl
-inc_again Ebx x = refl
-inc_again Esp x = refl
-inc_again Ebp x = refl
-inc_again Esi x = refl
-inc_again Edi x = refl
+inc_again _ x = refl
 
 dec_again : (r : Reg) (x : List ℕ) → instruction_at ((0x48 + reg_code r) ∷ x) ≡ Some (Dec r, x)
 unfolding instruction_at low_at register_at
 dec_again Eax x = refl
-dec_again Ecx x = refl
-dec_again Edx x = refl
-dec_again Ebx x = refl
-dec_again Esp x = refl
-dec_again Ebp x = refl
-dec_again Esi x = refl
-dec_again Edi x = refl
+dec_again _ x = refl
 
 push_again : (r : Reg) (x : List ℕ) → instruction_at ((0x50 + reg_code r) ∷ x) ≡ Some (Push r, x)
 unfolding instruction_at low_at register_at
 push_again Eax x = refl
-push_again Ecx x = refl
-push_again Edx x = refl
-push_again Ebx x = refl
-push_again Esp x = refl
-push_again Ebp x = refl
-push_again Esi x = refl
-push_again Edi x = refl
+push_again _ x = refl
 
 pop_again : (r : Reg) (x : List ℕ) → instruction_at ((0x58 + reg_code r) ∷ x) ≡ Some (Pop r, x)
 unfolding instruction_at low_at register_at
 pop_again Eax x = refl
-pop_again Ecx x = refl
-pop_again Edx x = refl
-pop_again Ebx x = refl
-pop_again Esp x = refl
-pop_again Ebp x = refl
-pop_again Esi x = refl
-pop_again Edi x = refl
+pop_again _ x = refl
 
-alu_again : (op : AluOp) (x : List ℕ) → instruction_at (alu_opcode op ∷ x) ≡ (operands_at x >>= λ o. Some (Alu op o.0.rm (reg_of o.0.reg), o.1))
+alu_again : (op : AluOp) (x : List ℕ)
+    → instruction_at (alu_opcode op ∷ x) ≡ (operands_at x >>= λ o. Some
+    (Alu op o.0.rm (reg_of o.0.reg), o.1))
 unfolding instruction_at low_at alu_at
 alu_again Add x = refl
-alu_again Or x = refl
-alu_again And x = refl
-alu_again Sub x = refl
-alu_again Xor x = refl
-alu_again Cmp x = refl
+alu_again _ x = refl
 
-alu_from_again : (op : AluOp) (x : List ℕ) → instruction_at (alu_from_opcode op ∷ x) ≡ (operands_at x >>= λ o. Some (alu_from op (reg_of o.0.reg) o.0.rm, o.1))
+alu_from_again : (op : AluOp) (x : List ℕ)
+    → instruction_at (alu_from_opcode op ∷ x)
+    ≡ (operands_at x >>= λ o. Some (alu_from op (reg_of o.0.reg) o.0.rm, o.1))
 unfolding instruction_at low_at alu_at
 alu_from_again Add x = refl
-alu_from_again Or x = refl
-alu_from_again And x = refl
-alu_from_again Sub x = refl
-alu_from_again Xor x = refl
-alu_from_again Cmp x = refl
+alu_from_again _ x = refl
 
-jcc_again : (c : Cond) (x : List ℕ) → instruction_at (0x0F ∷ (0x80 + cond_code c) ∷ x) ≡ (doubleword_at x >>= λ rel. Some (Jcc c rel.0, rel.1))
+jcc_again : (c : Cond) (x : List ℕ)
+    → instruction_at (0x0F ∷ (0x80 + cond_code c) ∷ x)
+    ≡ (doubleword_at x >>= λ rel. Some (Jcc c rel.0, rel.1))
 unfolding instruction_at low_at two_byte_at jcc_at
 jcc_again O x = refl
-jcc_again No x = refl
-jcc_again B x = refl
-jcc_again Ae x = refl
-jcc_again E x = refl
-jcc_again Ne x = refl
-jcc_again Be x = refl
-jcc_again A x = refl
-jcc_again S x = refl
-jcc_again Ns x = refl
-jcc_again L x = refl
-jcc_again Ge x = refl
-jcc_again Le x = refl
-jcc_again G x = refl
+jcc_again _ x = refl
 
-short_jcc_again : (c : Cond) (x : List ℕ) → instruction_at ((0x70 + cond_code c) ∷ x) ≡ (signed_byte_at x >>= λ rel. Some (Jcc c rel.0, rel.1))
+short_jcc_again : (c : Cond) (x : List ℕ)
+    → instruction_at ((0x70 + cond_code c) ∷ x)
+    ≡ (signed_byte_at x >>= λ rel. Some (Jcc c rel.0, rel.1))
 unfolding instruction_at low_at short_jcc_at
 short_jcc_again O x = refl
-short_jcc_again No x = refl
-short_jcc_again B x = refl
-short_jcc_again Ae x = refl
-short_jcc_again E x = refl
-short_jcc_again Ne x = refl
-short_jcc_again Be x = refl
-short_jcc_again A x = refl
-short_jcc_again S x = refl
-short_jcc_again Ns x = refl
-short_jcc_again L x = refl
-short_jcc_again Ge x = refl
-short_jcc_again Le x = refl
-short_jcc_again G x = refl
+short_jcc_again _ x = refl
 
 alu_code_again : (op : AluOp) → (alu_of (alu_code op) ≡ Some op) × (alu_code op < 8)
 alu_code_again Add = (refl, omega arith)
@@ -151,45 +98,126 @@ unary_code_again Div = (refl, omega arith)
 
 byte_reg_again : (b : ByteReg) → byte_reg_of (reg_code (whole_of b)) ≡ Some b
 byte_reg_again Al = refl
-byte_reg_again Cl = refl
-byte_reg_again Dl = refl
-byte_reg_again Bl = refl
+byte_reg_again _ = refl
 
 -- ---- the table
 
 pub again : (ins : Ins) (a x : List ℕ) → Spells ins a → instruction_at (a ++ x) ≡ Some (ins, x)
-unfolding instruction_at low_at middle_at high_at two_byte_at immediate_at alu_imm_at mov_at shift_at put_at gate_at short_jmp_at unary_at imul_at widen_at
-again (Load r n) a x (inl (i, is, e)) = rw (e, load_again r (i ++ x), doubleword_again n i x is) refl
-again (Load r n) a x (inr (o, i, so, is, e)) = rw (e, append_assoc o i x, operands_again 0 (rms.Reg r) o (i ++ x) (omega arith) so, doubleword_again n i x is) refl
-again (Put m n) a x (o, i, so, is, e) = rw (e, append_assoc o i x, operands_again 0 (rms.Mem m) o (i ++ x) (omega arith) so, doubleword_again n i x is) refl
-again (MovTo rm r) a x (inl (o, so, e)) = rw (e, operands_again (reg_code r) rm o x (reg_below r) so, reg_again r) refl
-again (MovTo (rms.Reg s) r) a x (inr (o, so, e)) = rw (e, operands_again (reg_code s) (rms.Reg r) o x (reg_below s) so, reg_again s) refl
+unfolding instruction_at low_at middle_at high_at two_byte_at immediate_at alu_imm_at mov_at
+    shift_at put_at gate_at short_jmp_at unary_at imul_at widen_at
+again (Load r n) a x (inl (i, is, e)) =
+    rw (e, load_again r (i ++ x), doubleword_again n i x is) refl
+again (Load r n) a x (inr (o, i, so, is, e)) =
+    rw (
+      e,
+      append_assoc o i x,
+      operands_again 0 (rms.Reg r) o (i ++ x) (omega arith) so,
+      doubleword_again n i x is,
+    ) refl
+again (Put m n) a x (o, i, so, is, e) =
+    rw (
+      e,
+      append_assoc o i x,
+      operands_again 0 (rms.Mem m) o (i ++ x) (omega arith) so,
+      doubleword_again n i x is,
+    ) refl
+again (MovTo rm r) a x (inl (o, so, e)) =
+    rw (e, operands_again (reg_code r) rm o x (reg_below r) so, reg_again r) refl
+again (MovTo (rms.Reg s) r) a x (inr (o, so, e)) =
+    rw (e, operands_again (reg_code s) (rms.Reg r) o x (reg_below s) so, reg_again s) refl
 again (MovTo (rms.Mem m) r) a x (inr none) = absurd none
-again (MovFrom r m) a x (o, so, e) = rw (e, operands_again (reg_code r) (rms.Mem m) o x (reg_below r) so, reg_again r) refl
-again (ByteTo m b) a x (o, so, e) = rw (e, operands_again (reg_code (whole_of b)) (rms.Mem m) o x (reg_below (whole_of b)) so, byte_reg_again b) refl
-again (ByteFrom b m) a x (o, so, e) = rw (e, operands_again (reg_code (whole_of b)) (rms.Mem m) o x (reg_below (whole_of b)) so, byte_reg_again b) refl
-again (Widen r m) a x (o, so, e) = rw (e, operands_again (reg_code r) (rms.Mem m) o x (reg_below r) so, reg_again r) refl
-again (WidenReg r b) a x (o, so, e) = rw (e, operands_again (reg_code r) (rms.Reg (whole_of b)) o x (reg_below r) so, byte_reg_again b, reg_again r) refl
-again (Lea r m) a x (o, so, e) = rw (e, operands_again (reg_code r) (rms.Mem m) o x (reg_below r) so, reg_again r) refl
-again (Alu op rm r) a x (inl (o, so, e)) = rw (e, alu_again op (o ++ x), operands_again (reg_code r) rm o x (reg_below r) so, reg_again r) refl
-again (Alu op (rms.Reg s) r) a x (inr (o, so, e)) = rw (e, alu_from_again op (o ++ x), operands_again (reg_code s) (rms.Reg r) o x (reg_below s) so, reg_again s) refl
+again (MovFrom r m) a x (o, so, e) =
+    rw (e, operands_again (reg_code r) (rms.Mem m) o x (reg_below r) so, reg_again r) refl
+again (ByteTo m b) a x (o, so, e) =
+    rw (
+      e,
+      operands_again (reg_code (whole_of b)) (rms.Mem m) o x (reg_below (whole_of b)) so,
+      byte_reg_again b,
+    ) refl
+again (ByteFrom b m) a x (o, so, e) =
+    rw (
+      e,
+      operands_again (reg_code (whole_of b)) (rms.Mem m) o x (reg_below (whole_of b)) so,
+      byte_reg_again b,
+    ) refl
+again (Widen r m) a x (o, so, e) =
+    rw (e, operands_again (reg_code r) (rms.Mem m) o x (reg_below r) so, reg_again r) refl
+again (WidenReg r b) a x (o, so, e) =
+    rw (
+      e,
+      operands_again (reg_code r) (rms.Reg (whole_of b)) o x (reg_below r) so,
+      byte_reg_again b,
+      reg_again r,
+    ) refl
+again (Lea r m) a x (o, so, e) =
+    rw (e, operands_again (reg_code r) (rms.Mem m) o x (reg_below r) so, reg_again r) refl
+again (Alu op rm r) a x (inl (o, so, e)) =
+    rw (
+      e,
+      alu_again op (o ++ x),
+      operands_again (reg_code r) rm o x (reg_below r) so,
+      reg_again r,
+    ) refl
+again (Alu op (rms.Reg s) r) a x (inr (o, so, e)) =
+    rw (
+      e,
+      alu_from_again op (o ++ x),
+      operands_again (reg_code s) (rms.Reg r) o x (reg_below s) so,
+      reg_again s,
+    ) refl
 again (Alu op (rms.Mem m) r) a x (inr none) = absurd none
-again (AluFrom op r m) a x (o, so, e) = rw (e, alu_from_again op (o ++ x), operands_again (reg_code r) (rms.Mem m) o x (reg_below r) so, reg_again r) refl
-again (AluImm op rm n) a x (inl (o, i, so, is, e)) = rw (e, append_assoc o i x, operands_again (alu_code op) rm o (i ++ x) (alu_code_again op).1 so, (alu_code_again op).0, signed_again n i x is) refl
-again (AluImm op rm n) a x (inr (o, i, so, is, e)) = rw (e, append_assoc o i x, operands_again (alu_code op) rm o (i ++ x) (alu_code_again op).1 so, (alu_code_again op).0, doubleword_again n i x is) refl
-again (Test rm r) a x (o, so, e) = rw (e, operands_again (reg_code r) rm o x (reg_below r) so, reg_again r) refl
+again (AluFrom op r m) a x (o, so, e) =
+    rw (
+      e,
+      alu_from_again op (o ++ x),
+      operands_again (reg_code r) (rms.Mem m) o x (reg_below r) so,
+      reg_again r,
+    ) refl
+again (AluImm op rm n) a x (inl (o, i, so, is, e)) =
+    rw (
+      e,
+      append_assoc o i x,
+      operands_again (alu_code op) rm o (i ++ x) (alu_code_again op).1 so,
+      (alu_code_again op).0,
+      signed_again n i x is,
+    ) refl
+again (AluImm op rm n) a x (inr (o, i, so, is, e)) =
+    rw (
+      e,
+      append_assoc o i x,
+      operands_again (alu_code op) rm o (i ++ x) (alu_code_again op).1 so,
+      (alu_code_again op).0,
+      doubleword_again n i x is,
+    ) refl
+again (Test rm r) a x (o, so, e) =
+    rw (e, operands_again (reg_code r) rm o x (reg_below r) so, reg_again r) refl
 again (Inc r) a x e = rw (e, inc_again r x) refl
 again (Dec r) a x e = rw (e, dec_again r x) refl
 again (Push r) a x e = rw (e, push_again r x) refl
 again (Pop r) a x e = rw (e, pop_again r x) refl
 again (PushImm n) a x (i, is, e) = rw (e, doubleword_again n i x is) refl
-again (Shift op rm count) a x (o, i, so, is, e) = rw (e, append_assoc o i x, operands_again (shift_code op) rm o (i ++ x) (shift_code_again op).1 so, (shift_code_again op).0, byte_again count i x is) refl
-again (Imul r rm) a x (o, so, e) = rw (e, operands_again (reg_code r) rm o x (reg_below r) so, reg_again r) refl
-again (Unary op rm) a x (o, so, e) = rw (e, operands_again (unary_code op) rm o x (unary_code_again op).1 so, (unary_code_again op).0) refl
+again (Shift op rm count) a x (o, i, so, is, e) =
+    rw (
+      e,
+      append_assoc o i x,
+      operands_again (shift_code op) rm o (i ++ x) (shift_code_again op).1 so,
+      (shift_code_again op).0,
+      byte_again count i x is,
+    ) refl
+again (Imul r rm) a x (o, so, e) =
+    rw (e, operands_again (reg_code r) rm o x (reg_below r) so, reg_again r) refl
+again (Unary op rm) a x (o, so, e) =
+    rw (
+      e,
+      operands_again (unary_code op) rm o x (unary_code_again op).1 so,
+      (unary_code_again op).0,
+    ) refl
 again (Jmp rel) a x (inl (i, is, e)) = rw (e, doubleword_again rel i x is) refl
 again (Jmp rel) a x (inr (i, is, e)) = rw (e, signed_again rel i x is) refl
-again (Jcc c rel) a x (inl (i, is, e)) = rw (e, jcc_again c (i ++ x), doubleword_again rel i x is) refl
-again (Jcc c rel) a x (inr (i, is, e)) = rw (e, short_jcc_again c (i ++ x), signed_again rel i x is) refl
+again (Jcc c rel) a x (inl (i, is, e)) =
+    rw (e, jcc_again c (i ++ x), doubleword_again rel i x is) refl
+again (Jcc c rel) a x (inr (i, is, e)) =
+    rw (e, short_jcc_again c (i ++ x), signed_again rel i x is) refl
 again (Call rel) a x (i, is, e) = rw (e, doubleword_again rel i x is) refl
 again Ret a x e = rw e refl
 again (Gate n) a x (i, is, e) = rw (e, byte_again n i x is) refl

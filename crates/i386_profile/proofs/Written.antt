@@ -9,26 +9,30 @@ use Rattle.i386_profile.specs.declared.operands.Rm.TheVariants as rms
 use Rattle.i386_profile.specs.declared.ins.Ins.{Ins}
 use Rattle.i386_profile.specs.declared.ins.Ins.TheVariants.{Load, Put, MovTo, MovFrom, ByteTo, ByteFrom, Widen, WidenReg, Lea, Alu, AluFrom, AluImm, Test, Inc, Dec, Push, Pop, PushImm, Shift, Imul, Unary, Jmp, Jcc, Call, Ret, Gate, Nop}
 use Rattle.i386_profile.specs.Codes.{whole_of, reg_code, alu_code, shift_code, unary_code}
-use Rattle.i386_profile.specs.Spelling.{IsSignedByte, based, SpellsMemory, SpellsRm, Spells}
+use Rattle.i386_profile.specs.Spelling.{IsSignedByte, modrm_base, SpellsMemory, SpellsRm, Spells}
 use Rattle.i386_profile.specs.Chosen.{doubleword, low_byte, is_signed_byte, chosen_memory, chosen_rm, chosen}
 use Rattle.i386_profile.specs.Laws.{IsRmInRange, IsInRange, ChosenSpells, RoundTrip}
 use Rattle.i386_profile.proofs.Lengths.{bounded}
 
-split : {A : Type 0} (P : A → Type 0) (b : Bool) (x y : A) → (b ≡ true → P x) → (b ≡ false → P y) → P (cond b x y)
+split : {A : Type 0} (P : A → Type 0) (b : Bool) (x y : A) → (b ≡ true → P x) → (b ≡ false → P y)
+    → P (cond b x y)
 split P true x y f g = f refl
 split P false x y f g = g refl
 
 low_byte_is : (n : ℕ) → n < 2 ^ 32 → is_signed_byte n ≡ true → IsSignedByte n (low_byte n)
 low_byte_is n lt e = (n % 256, omega arith, grind arith, refl)
 
-not_ebp : (disp : ℕ) (base : Reg) → (eqb disp 0 && not (eqb (reg_code base) 5)) ≡ true → (base ≢ Ebp) × (disp ≡ 0)
+not_ebp : (disp : ℕ) (base : Reg) → (eqb disp 0 && not (eqb (reg_code base) 5)) ≡ true
+    → (base ≢ Ebp) × (disp ≡ 0)
 not_ebp disp base e = (λ same. grind arith, grind arith)
 
-memory_is : (reg : ℕ) (base : Option Reg) (disp : ℕ) → disp < 2 ^ 32 → SpellsMemory reg base disp (chosen_memory reg base disp)
+memory_is : (reg : ℕ) (base : Option Reg) (disp : ℕ) → disp < 2 ^ 32
+    → SpellsMemory reg base disp (chosen_memory reg base disp)
 memory_is reg None disp lt = (doubleword disp, (lt, refl), refl)
 memory_is reg (Some base) disp lt =
     split (SpellsMemory reg (Some base) disp) (eqb disp 0 && not (eqb (reg_code base) 5)) _ _
-    (λ e. let h = not_ebp disp base e in (0, [], inl (refl, h.0, h.1, refl), sym (append-nil (based 0 reg base))))
+    (λ e. let h = not_ebp disp base e in
+    (0, [], inl (refl, h.0, h.1, refl), sym (append-nil (modrm_base 0 reg base))))
     (λ _. split (SpellsMemory reg (Some base) disp) (is_signed_byte disp) _ _
     (λ e. (1, low_byte disp, inr (inl (refl, low_byte_is disp lt e)), refl))
     (λ _. (2, doubleword disp, inr (inr (refl, (lt, refl))), refl)))
@@ -74,5 +78,9 @@ chosen_is_spelling ins h = let s = spelled ins h in (s, (bounded ins (chosen ins
 
 pub comes_back : RoundTrip
 comes_back ins rest h =
-    let within : length (chosen ins) ≤ length (chosen ins ++ rest) = omega (arith, length-append (chosen ins) rest) in
-    (within, subst (Spells ins) (sym (take_at (chosen ins) rest (length (chosen ins)) refl)) (spelled ins h))
+    let within : length (chosen ins) ≤ length (chosen ins ++ rest) =
+    omega (arith, length-append (chosen ins) rest) in (
+      within,
+      subst (Spells ins) (sym (take_at (chosen ins) rest (length (chosen ins)) refl))
+          (spelled ins h),
+    )

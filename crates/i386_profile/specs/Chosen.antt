@@ -7,7 +7,7 @@ use Rattle.i386_profile.specs.declared.operands.Rm.TheVariants as rms
 use Rattle.i386_profile.specs.declared.ins.Ins.{Ins}
 use Rattle.i386_profile.specs.declared.ins.Ins.TheVariants.{Load, Put, MovTo, MovFrom, ByteTo, ByteFrom, Widen, WidenReg, Lea, Alu, AluFrom, AluImm, Test, Inc, Dec, Push, Pop, PushImm, Shift, Imul, Unary, Jmp, Jcc, Call, Ret, Gate, Nop}
 use Rattle.i386_profile.specs.Codes.{whole_of, reg_code, alu_code, alu_opcode, alu_from_opcode, shift_code, unary_code, cond_code}
-use Rattle.i386_profile.specs.Spelling.{modrm, based, one_byte, two_byte}
+use Rattle.i386_profile.specs.Spelling.{modrm, modrm_base, one_byte, two_byte}
 
 -- four bytes, little-endian
 abbrev pub doubleword : ℕ → List ℕ
@@ -25,9 +25,9 @@ is_signed_byte n = nat_lt n 0x80 || nat_le 0xFFFFFF80 n
 abbrev pub chosen_memory : ℕ → Option Reg → ℕ → List ℕ
 chosen_memory reg None disp = modrm 0 reg 5 ∷ doubleword disp
 chosen_memory reg (Some base) disp =
-    if disp == 0 && not (reg_code base == 5) then based 0 reg base
-    else if is_signed_byte disp then based 1 reg base ++ low_byte disp
-    else based 2 reg base ++ doubleword disp
+    if disp == 0 && not (reg_code base == 5) then modrm_base 0 reg base
+    else if is_signed_byte disp then modrm_base 1 reg base ++ low_byte disp
+    else modrm_base 2 reg base ++ doubleword disp
 
 -- an operand with reg in its ModRM byte
 abbrev pub chosen_rm : ℕ → Rm → List ℕ

@@ -1,5 +1,5 @@
--- The numbers of registers, operations and conditions in ModRM bytes and opcodes (i386 manuals, "ModR/M and SIB
--- Bytes" and "Opcode Map").
+-- The numbers of registers, operations and conditions in ModRM bytes and opcodes (i386 manuals,
+-- "ModR/M and SIB Bytes" and "Opcode Map").
 use Rattle.std.specs.Prelude.{ℕ}
 use Rattle.i386_profile.specs.declared.operands.Reg.{Reg}
 use Rattle.i386_profile.specs.declared.operands.Reg.TheVariants.{Eax, Ecx, Edx, Ebx, Esp, Ebp, Esi, Edi}

@@ -1,5 +1,6 @@
--- What each instruction does to registers, flags and the segment's bytes, a case for each (i386 manuals, "Instruction
--- Set"). A flag that the manuals leave undefined stays as it was. eip is the offset after the instruction on entry.
+-- What each instruction does to registers, flags and the segment's bytes, a case for each (i386
+-- manuals, "Instruction Set"). A flag that the manuals leave undefined stays as it was. eip is the
+-- offset after the instruction on entry.
 use Rattle.std.specs.Prelude.{◌≡◌, ℕ, ◌+◌, ◌-◌, ◌*◌, ◌/◌, ◌%◌, ◌^◌, false, List, Option, Some, None, Result, Ok, Err, if◌then◌else◌, nat_le, ◌==◌, bit_and}
 use Rattle.i386_profile.specs.declared.operands.Reg.{Reg}
 use Rattle.i386_profile.specs.declared.operands.Reg.TheVariants.{Eax, Edx, Esp}
@@ -21,7 +22,7 @@ use Rattle.i386_profile.specs.declared.cpu.FaultKind.TheVariants as faults
 use Rattle.i386_profile.specs.declared.segment.Outside.{Outside}
 use Rattle.i386_profile.specs.Codes.{whole_of}
 use Rattle.i386_profile.specs.Segments.{load8, load32, store8, store32}
-use Rattle.i386_profile.specs.Flags.{get, set, with_flags, with_carry_overflow, holds, alu_value, alu_flags, inc, dec, not_value, neg_value, neg_flags, mul, shift_value, shift_flags, product_of, product_overflows, popped, jumped}
+use Rattle.i386_profile.specs.Flags.{get, set, with_flags, with_carry_overflow, holds, alu_value, alu_flags, inc, dec, not_value, neg_value, neg_flags, mul, shift_value, shift_flags, product_of, product_overflows, pop_state, jump_state}
 
 -- ---- states and outcomes
 
@@ -34,7 +35,8 @@ pub record State : Type 0 where
 abbrev pub state : Cpu → List ℕ → State
 state cpu bytes = record { cpu = cpu; bytes = bytes }
 
--- what an instruction leads to: the next one, a call of the machine, or a fault that changes nothing
+-- what an instruction leads to: the next one, a call of the machine, or a fault that changes
+-- nothing
 pub data Outcome : Type 0 where
   GoesOn : State → Outcome
   CallsGate : ℕ → State → Outcome
@@ -83,7 +85,8 @@ load_rm s (rms.Mem m) = load32 (address s.cpu m) s.bytes
 -- an operand with a new value
 abbrev pub store_rm : Rm → ℕ → State → Reached
 store_rm (rms.Reg r) value s = Ok (with_reg s r value)
-store_rm (rms.Mem m) value s = store32 (address s.cpu m) value s.bytes >>= λ bytes. Ok (record s { bytes = bytes })
+store_rm (rms.Mem m) value s =
+    store32 (address s.cpu m) value s.bytes >>= λ bytes. Ok (record s { bytes = bytes })
 
 -- ---- moves
 
@@ -140,7 +143,8 @@ after_test rm b s = do
 unfoldable pub after_shift : ShiftOp → Rm → ℕ → State → Reached
 after_shift op rm count s = do
   a ← load_rm s rm
-  store_rm rm (shift_value op a (count % 32)) (record s { cpu = shift_flags op s.cpu a (count % 32) })
+  let n = count % 32
+  store_rm rm (shift_value op a n) (record s { cpu = shift_flags op s.cpu a n })
 
 -- imul r, rm: zero and sign are kept
 unfoldable pub after_imul : Reg → Rm → State → Reached
@@ -168,19 +172,21 @@ after_mul rm s = do
   b ← load_rm s rm
   Ok (record s { cpu = mul s.cpu b })
 
--- edx:eax by the divisor, the quotient in eax and the remainder in edx. Divide comes exactly where the divisor, once it is
--- loaded, is 0, or the quotient passes 32 bits. The flags are kept.
-abbrev pub divided : Result ℕ Outside → State → Outcome
-divided (Err e) s = Faults faults.Segment
-divided (Ok divisor) s =
+-- edx:eax by the divisor, the quotient in eax and the remainder in edx. Divide comes exactly where
+-- the divisor, once it is loaded, is 0, or the quotient passes 32 bits. The flags are kept.
+abbrev pub quotient_outcome : Result ℕ Outside → State → Outcome
+quotient_outcome (Err e) s = Faults faults.Segment
+quotient_outcome (Ok divisor) s =
     let dividend = get s.cpu Edx * 2 ^ 32 + get s.cpu Eax in
     if divisor == 0 then Faults faults.Divide
     else if nat_le (2 ^ 32) (dividend / divisor) then Faults faults.Divide
-    else GoesOn (record s { cpu = set (set s.cpu Eax (dividend / divisor)) Edx (dividend % divisor) })
+    else
+    let c = set (set s.cpu Eax (dividend / divisor)) Edx (dividend % divisor) in
+    GoesOn (record s { cpu = c })
 
 -- div rm
 unfoldable pub after_div : Rm → State → Outcome
-after_div rm s = divided (load_rm s rm) s
+after_div rm s = quotient_outcome (load_rm s rm) s
 
 -- ---- stack and jumps
 
@@ -195,19 +201,19 @@ after_push value s = do
 unfoldable pub after_pop : Reg → State → Reached
 after_pop r s = do
   value ← load32 (get s.cpu Esp) s.bytes
-  Ok (record s { cpu = set (popped s.cpu) r value })
+  Ok (record s { cpu = set (pop_state s.cpu) r value })
 
 -- call: eip is pushed, then moved
 unfoldable pub after_call : ℕ → State → Reached
 after_call rel s = do
   pushed ← after_push s.cpu.eip s
-  Ok (record pushed { cpu = jumped pushed.cpu rel })
+  Ok (record pushed { cpu = jump_state pushed.cpu rel })
 
 -- ret: eip is popped
 unfoldable pub after_ret : State → Reached
 after_ret s = do
   value ← load32 (get s.cpu Esp) s.bytes
-  let c = popped s.cpu
+  let c = pop_state s.cpu
   Ok (record s { cpu = record c { eip = value } })
 
 -- ---- the table
@@ -242,8 +248,9 @@ does (PushImm n) s = ends (after_push n s)
 does (Shift op rm count) s = ends (after_shift op rm count s)
 does (Imul r rm) s = ends (after_imul r rm s)
 does (Unary op rm) s = does_unary op rm s
-does (Jmp rel) s = GoesOn (record s { cpu = jumped s.cpu rel })
-does (Jcc c rel) s = GoesOn (record s { cpu = if holds c s.cpu then jumped s.cpu rel else s.cpu })
+does (Jmp rel) s = GoesOn (record s { cpu = jump_state s.cpu rel })
+does (Jcc c rel) s =
+    GoesOn (record s { cpu = if holds c s.cpu then jump_state s.cpu rel else s.cpu })
 does (Call rel) s = ends (after_call rel s)
 does Ret s = ends (after_ret s)
 does (Gate n) s = CallsGate n s

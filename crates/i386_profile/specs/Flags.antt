@@ -1,5 +1,5 @@
--- Registers, results and flags, over whole numbers: an operand of 32 bits is a number below 2^32 (i386 manuals,
--- "Flags Register" and "Status Flags Summary").
+-- Registers, results and flags, over whole numbers: an operand of 32 bits is a number below 2^32
+-- (i386 manuals, "Flags Register" and "Status Flags Summary").
 use Rattle.std.specs.Prelude.{ℕ, ◌+◌, ◌-◌, ◌*◌, ◌/◌, ◌%◌, ◌^◌, ◌&&◌, ◌||◌, not, Bool, false, if◌then◌else◌, nat_lt, nat_le, ◌==◌, slice_index, slice_set, bit_and, bit_or, bit_xor, ℤ, pos, negsuc, ◌+ℤ◌, ◌-ℤ◌, ◌*ℤ◌}
 use Rattle.std.specs.Int.{w32, cast_signed, cast_unsigned, int_shr, bit_at}
 use Rattle.i386_profile.specs.declared.operands.Reg.{Reg}
@@ -22,18 +22,18 @@ abbrev pub set : Cpu → Reg → ℕ → Cpu
 set c r value = record c { regs = slice_set c.regs (reg_code r) value }
 
 -- the registers with esp above the doubleword on the stack's top
-abbrev pub popped : Cpu → Cpu
-popped c = set c Esp ((get c Esp + 4) % 2 ^ 32)
+abbrev pub pop_state : Cpu → Cpu
+pop_state c = set c Esp ((get c Esp + 4) % 2 ^ 32)
 
 -- eip at a distance from where it is
-abbrev pub jumped : Cpu → ℕ → Cpu
-jumped c rel = record c { eip = (c.eip + rel) % 2 ^ 32 }
+abbrev pub jump_state : Cpu → ℕ → Cpu
+jump_state c rel = record c { eip = (c.eip + rel) % 2 ^ 32 }
 
 -- ---- signed numbers
 
 -- the signed number of 32 bits, in two's complement
-abbrev pub signed : ℕ → ℤ
-signed n = cast_signed w32 n
+abbrev pub signed_value : ℕ → ℤ
+signed_value n = cast_signed w32 n
 
 -- -2^31 to 2^31 - 1
 abbrev pub fits_signed : ℤ → Bool
@@ -60,7 +60,7 @@ sum_carries a b = nat_le (2 ^ 32) (a + b)
 
 -- the signed sum does not fit
 abbrev pub sum_overflows : ℕ → ℕ → Bool
-sum_overflows a b = not (fits_signed (signed a +ℤ signed b))
+sum_overflows a b = not (fits_signed (signed_value a +ℤ signed_value b))
 
 -- modulo 2^32
 abbrev pub difference_of : ℕ → ℕ → ℕ
@@ -72,7 +72,7 @@ difference_borrows a b = nat_lt a b
 
 -- the signed difference does not fit
 abbrev pub difference_overflows : ℕ → ℕ → Bool
-difference_overflows a b = not (fits_signed (signed a -ℤ signed b))
+difference_overflows a b = not (fits_signed (signed_value a -ℤ signed_value b))
 
 -- the low 32 bits, which are those of the signed product too
 abbrev pub product_of : ℕ → ℕ → ℕ
@@ -84,13 +84,14 @@ product_carries a b = nat_le (2 ^ 32) (a * b)
 
 -- the signed product does not fit
 abbrev pub product_overflows : ℕ → ℕ → Bool
-product_overflows a b = not (fits_signed (signed a *ℤ signed b))
+product_overflows a b = not (fits_signed (signed_value a *ℤ signed_value b))
 
 -- ---- flags
 
 -- all four flags: zero and sign go by the value
 abbrev pub with_flags : Cpu → Bool → Bool → ℕ → Cpu
-with_flags c carry overflow value = record c { cf = carry; zf = value == 0; sf = is_negative value; of = overflow }
+with_flags c carry overflow value =
+    record c { cf = carry; zf = value == 0; sf = is_negative value; of = overflow }
 
 -- carry and overflow alone
 abbrev pub with_carry_overflow : Cpu → Bool → Bool → Cpu
@@ -129,9 +130,11 @@ abbrev pub alu_flags : AluOp → Cpu → ℕ → ℕ → Cpu
 alu_flags Add c a b = with_flags c (sum_carries a b) (sum_overflows a b) (sum_of a b)
 alu_flags Or c a b = with_flags c false false (bit_or a b)
 alu_flags And c a b = with_flags c false false (bit_and a b)
-alu_flags Sub c a b = with_flags c (difference_borrows a b) (difference_overflows a b) (difference_of a b)
+alu_flags Sub c a b =
+    with_flags c (difference_borrows a b) (difference_overflows a b) (difference_of a b)
 alu_flags Xor c a b = with_flags c false false (bit_xor a b)
-alu_flags Cmp c a b = with_flags c (difference_borrows a b) (difference_overflows a b) (difference_of a b)
+alu_flags Cmp c a b =
+    with_flags c (difference_borrows a b) (difference_overflows a b) (difference_of a b)
 
 -- ---- operations of one operand
 
@@ -141,7 +144,8 @@ inc c r = let a = get c r in set (with_flags c c.cf (sum_overflows a 1) (sum_of 
 
 -- the same downward
 abbrev pub dec : Cpu → Reg → Cpu
-dec c r = let a = get c r in set (with_flags c c.cf (difference_overflows a 1) (difference_of a 1)) r (difference_of a 1)
+dec c r = let a = get c r in
+    set (with_flags c c.cf (difference_overflows a 1) (difference_of a 1)) r (difference_of a 1)
 
 -- each bit is turned
 abbrev pub not_value : ℕ → ℕ
@@ -168,7 +172,7 @@ mul c b =
 abbrev pub shift_value : ShiftOp → ℕ → ℕ → ℕ
 shift_value Shl a count = (a * 2 ^ count) % 2 ^ 32
 shift_value Shr a count = a / 2 ^ count
-shift_value Sar a count = cast_unsigned w32 (int_shr (signed a) count)
+shift_value Sar a count = cast_unsigned w32 (int_shr (signed_value a) count)
 
 -- the last bit shifted out
 abbrev pub shift_carry : ShiftOp → ℕ → ℕ → Bool
@@ -186,4 +190,5 @@ shift_overflow Sar a = false
 abbrev pub shift_flags : ShiftOp → Cpu → ℕ → ℕ → Cpu
 shift_flags op c a count =
     if count == 0 then c
-    else with_flags c (shift_carry op a count) (if count == 1 then shift_overflow op a else c.of) (shift_value op a count)
+    else with_flags c (shift_carry op a count) (if count == 1 then shift_overflow op a else c.of)
+    (shift_value op a count)

@@ -7,9 +7,10 @@ use Rattle.i386_profile.specs.declared.ins.Ins.TheVariants.{Load, Put, MovTo, Mo
 use Rattle.i386_profile.specs.Spelling.{Spells, Begins}
 use Rattle.i386_profile.specs.Chosen.{chosen}
 
--- No spelling is a proper front of another, and no bytes spell two instructions.
+-- No spelling is a proper prefix of another, and no bytes spell two instructions.
 abbrev pub OneSpelling : Type 0
-OneSpelling = (i j : Ins) (a b x y : List ℕ) → Spells i a → Spells j b → a ++ x ≡ b ++ y → (a ≡ b) × (i ≡ j)
+OneSpelling = (i j : Ins) (a b x y : List ℕ) → Spells i a → Spells j b → a ++ x ≡ b ++ y
+    → (a ≡ b) × (i ≡ j)
 
 -- the displacement of an operand has 32 bits
 abbrev pub IsRmInRange : Rm → Type 0
@@ -46,4 +47,5 @@ ChosenSpells = (ins : Ins) → IsInRange ins → Spells ins (chosen ins) × (len
 
 -- Where the chosen spelling stands, the instruction begins there, whatever follows.
 abbrev pub RoundTrip : Type 0
-RoundTrip = (ins : Ins) (rest : List ℕ) → IsInRange ins → Begins ins (length (chosen ins)) (chosen ins ++ rest)
+RoundTrip = (ins : Ins) (rest : List ℕ) → IsInRange ins
+    → Begins ins (length (chosen ins)) (chosen ins ++ rest)

@@ -1,5 +1,6 @@
--- Reading an instruction from the front of some bytes: what it is, and the bytes after it. This is the order in which
--- the decoder looks at bytes; that what it reads is what is spelled there is proved, and no public clause cites it.
+-- Reading an instruction from the beginning of some bytes: what it is, and the bytes after it. This
+-- is the order in which the decoder looks at bytes; that what it reads is what is spelled there is
+-- proved, and no public clause cites it.
 use Rattle.std.specs.Prelude.{ℕ, ◌/◌, ◌%◌, List, [], ◌∷◌, length, take, drop, Option, Some, None, if◌then◌else◌, nat_lt, ◌==◌}
 use Rattle.std.specs.Int.{w32, from_le_bytes}
 use Rattle.i386_profile.specs.declared.operands.Reg.{Reg}
@@ -38,7 +39,8 @@ reg_of n =
 -- the byte register of one
 abbrev pub byte_reg_of : ℕ → Option ByteReg
 byte_reg_of n =
-    if n == 0 then Some Al else if n == 1 then Some Cl else if n == 2 then Some Dl else if n == 3 then Some Bl else None
+    if n == 0 then Some Al else if n == 1 then Some Cl else if n == 2 then Some Dl
+    else if n == 3 then Some Bl else None
 
 -- as alu_code, shift_code, unary_code and cond_code number them
 abbrev pub alu_of : ℕ → Option AluOp
@@ -47,17 +49,21 @@ alu_of n =
     else if n == 5 then Some Sub else if n == 6 then Some Xor else if n == 7 then Some Cmp else None
 
 abbrev pub shift_of : ℕ → Option ShiftOp
-shift_of n = if n == 4 then Some Shl else if n == 5 then Some Shr else if n == 7 then Some Sar else None
+shift_of n =
+    if n == 4 then Some Shl else if n == 5 then Some Shr else if n == 7 then Some Sar else None
 
 abbrev pub unary_of : ℕ → Option UnaryOp
 unary_of n =
-    if n == 2 then Some Not else if n == 3 then Some Neg else if n == 4 then Some Mul else if n == 6 then Some Div else None
+    if n == 2 then Some Not else if n == 3 then Some Neg else if n == 4 then Some Mul
+    else if n == 6 then Some Div else None
 
 -- the conditions 0 to 7, and from 8 on
 abbrev pub low_cond_of : ℕ → Option Cond
 low_cond_of n =
-    if n == 0 then Some O else if n == 1 then Some No else if n == 2 then Some B else if n == 3 then Some Ae
-    else if n == 4 then Some E else if n == 5 then Some Ne else if n == 6 then Some Be else if n == 7 then Some A else None
+    if n == 0 then Some O else if n == 1 then Some No else if n == 2 then Some B
+    else if n == 3 then Some Ae
+    else if n == 4 then Some E else if n == 5 then Some Ne else if n == 6 then Some Be
+    else if n == 7 then Some A else None
 
 abbrev pub high_cond_of : ℕ → Option Cond
 high_cond_of n =
@@ -86,7 +92,7 @@ signed_byte_at (b ∷ rest) = Some (sign_extended b, rest)
 
 -- ---- operands
 
--- a place in memory as an operand
+-- an address as an operand
 abbrev pub at : Option Reg → ℕ → Rm
 at base disp = rms.Mem (record { base = base; disp = disp })
 
@@ -101,8 +107,12 @@ displaced_at mode base bytes =
 unfoldable pub rm_at : ℕ → ℕ → List ℕ → Option (Rm × List ℕ)
 rm_at mode code bytes =
     if mode == 3 then Some (rms.Reg (reg_of code), bytes)
-    else if code == 4 then (byte_at bytes >>= λ s. if s.0 == 0x24 then displaced_at mode Esp s.1 else None)
-    else if code == 5 then (if mode == 0 then (doubleword_at bytes >>= λ d. Some (at None d.0, d.1)) else displaced_at mode Ebp bytes)
+    else if code == 4
+    then (byte_at bytes >>= λ s. if s.0 == 0x24 then displaced_at mode Esp s.1 else None)
+    else if code == 5 then (
+    if mode == 0 then (doubleword_at bytes >>= λ d. Some (at None d.0, d.1))
+    else displaced_at mode Ebp bytes
+    )
     else displaced_at mode (reg_of code) bytes
 
 -- the number in reg, and the operand of mod and rm
@@ -148,7 +158,7 @@ abbrev pub byte_from : ℕ → Rm → Option Ins
 byte_from reg (rms.Reg s) = None
 byte_from reg (rms.Mem m) = byte_reg_of reg >>= λ b. Some (ByteFrom b m)
 
--- B6 behind 0F, and its operand
+-- B6 after 0F, and its operand
 abbrev pub widen : Reg → Rm → Option Ins
 widen r (rms.Reg s) = byte_reg_of (reg_code s) >>= λ b. Some (WidenReg r b)
 widen r (rms.Mem m) = Some (Widen r m)
@@ -176,7 +186,7 @@ register_at opcode bytes =
     else if opcode / 8 == 11 then Some (Pop (reg_of (opcode % 8)), bytes)
     else None
 
--- 68, B8 to BF, E8, E9: a doubleword behind the opcode
+-- 68, B8 to BF, E8, E9: a doubleword after the opcode
 unfoldable pub immediate_at : ℕ → List ℕ → Read
 immediate_at opcode bytes = do
   n ← doubleword_at bytes
@@ -193,7 +203,7 @@ short_jcc_at opcode bytes = do
   rel ← signed_byte_at bytes
   Some (Jcc c rel.0, rel.1)
 
--- 80 to 8F behind 0F: the same
+-- 80 to 8F after 0F: the same
 unfoldable pub jcc_at : ℕ → List ℕ → Read
 jcc_at opcode bytes = do
   c ← cond_of (opcode % 16)
@@ -255,18 +265,18 @@ unary_at bytes = do
   op ← unary_of o.0.reg
   Some (Unary op o.0.rm, o.1)
 
--- AF behind 0F
+-- AF after 0F
 unfoldable pub imul_at : List ℕ → Read
 imul_at bytes = operands_at bytes >>= λ o. Some (Imul (reg_of o.0.reg) o.0.rm, o.1)
 
--- B6 behind 0F
+-- B6 after 0F
 unfoldable pub widen_at : List ℕ → Read
 widen_at bytes = do
   o ← operands_at bytes
   ins ← widen (reg_of o.0.reg) o.0.rm
   Some (ins, o.1)
 
--- behind 0F
+-- after 0F
 unfoldable pub two_byte_at : List ℕ → Read
 two_byte_at bytes = do
   opcode ← byte_at bytes
@@ -311,7 +321,7 @@ high_at opcode bytes =
     else if opcode == 0xF7 then unary_at bytes
     else None
 
--- the instruction at the front
+-- the instruction at the beginning
 unfoldable pub instruction_at : List ℕ → Read
 instruction_at bytes = do
   opcode ← byte_at bytes

@@ -17,7 +17,8 @@ load8 at bytes = if is_outside 1 at bytes then Err outside else Ok (slice_index 
 
 -- the doubleword at an offset, little-endian
 abbrev pub load32 : ℕ → List ℕ → Result ℕ Outside
-load32 at bytes = if is_outside 4 at bytes then Err outside else Ok (from_le_bytes w32 (take 4 (drop at bytes)))
+load32 at bytes =
+    if is_outside 4 at bytes then Err outside else Ok (from_le_bytes w32 (take 4 (drop at bytes)))
 
 -- the bytes after a byte is stored
 abbrev pub store8 : ℕ → ℕ → List ℕ → Result (List ℕ) Outside
@@ -26,7 +27,8 @@ store8 at value bytes = if is_outside 1 at bytes then Err outside else Ok (slice
 -- the bytes after a doubleword is stored
 abbrev pub store32 : ℕ → ℕ → List ℕ → Result (List ℕ) Outside
 store32 at value bytes =
-    if is_outside 4 at bytes then Err outside else Ok (take at bytes ++ to_le_bytes w32 value ++ drop (at + 4) bytes)
+    if is_outside 4 at bytes then Err outside else Ok
+    (take at bytes ++ to_le_bytes w32 value ++ drop (at + 4) bytes)
 
 -- The call ended with the value made, or it is outside and left the old one.
 abbrev pub EndsAs : {X U : Type 0} → Result X Outside → Result U Outside → X → X → Type 0

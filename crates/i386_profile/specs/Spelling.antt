@@ -1,4 +1,5 @@
--- Which bytes spell an instruction, a case for each instruction of the profile (i386 manuals, "Instruction Format").
+-- Which bytes spell an instruction, a case for each instruction of the profile (i386 manuals,
+-- "Instruction Format").
 use Rattle.std.specs.Prelude.{◌≡◌, ◌≢◌, ℕ, ◌+◌, ◌*◌, ◌<◌, ◌≤◌, ◌^◌, ◌⊎◌, length, take, List, [], ◌∷◌, ◌++◌, Option, Some, None, if◌then◌else◌, nat_lt}
 use Rattle.std.specs.Int.{w32, to_le_bytes}
 use Rattle.i386_profile.specs.declared.operands.Reg.{Reg}
@@ -9,7 +10,7 @@ use Rattle.i386_profile.specs.declared.ins.Ins.{Ins}
 use Rattle.i386_profile.specs.declared.ins.Ins.TheVariants.{Load, Put, MovTo, MovFrom, ByteTo, ByteFrom, Widen, WidenReg, Lea, Alu, AluFrom, AluImm, Test, Inc, Dec, Push, Pop, PushImm, Shift, Imul, Unary, Jmp, Jcc, Call, Ret, Gate, Nop}
 use Rattle.i386_profile.specs.Codes.{whole_of, reg_code, alu_code, alu_opcode, alu_from_opcode, shift_code, unary_code, cond_code}
 
--- ---- numbers behind an opcode
+-- ---- numbers after an opcode
 
 -- imm32, disp32, rel32: four bytes, little-endian
 abbrev pub IsDoubleword : ℕ → List ℕ → Type 0
@@ -33,23 +34,26 @@ IsSignedByte n bytes = (byte : ℕ) × (byte < 256) × (n ≡ sign_extended byte
 unfoldable pub modrm : ℕ → ℕ → ℕ → ℕ
 modrm mode reg rm = 64 * mode + 8 * reg + rm
 
--- ModRM with a base in rm. 100 in rm says that a SIB byte follows: of the SIB bytes, 24 is base esp, no index.
-abbrev pub based : ℕ → ℕ → Reg → List ℕ
-based mode reg Esp = modrm mode reg 4 ∷ 0x24 ∷ []
-based mode reg base = modrm mode reg (reg_code base) ∷ []
+-- ModRM with a base in rm. 100 in rm says that a SIB byte follows: of the SIB bytes, 24 is base
+-- esp, no index.
+abbrev pub modrm_base : ℕ → ℕ → Reg → List ℕ
+modrm_base mode reg Esp = modrm mode reg 4 ∷ 0x24 ∷ []
+modrm_base mode reg base = modrm mode reg (reg_code base) ∷ []
 
--- the displacement that mod announces: none for 00, a form that ebp does not have, disp8 for 01, disp32 for 10
+-- the displacement that mod announces: none for 00, a form that ebp does not have, disp8 for 01,
+-- disp32 for 10
 abbrev pub IsDisplacement : ℕ → Reg → ℕ → List ℕ → Type 0
 IsDisplacement mode base disp bytes =
     ((mode ≡ 0) × (base ≢ Ebp) × (disp ≡ 0) × (bytes ≡ []))
     ⊎ ((mode ≡ 1) × IsSignedByte disp bytes)
     ⊎ ((mode ≡ 2) × IsDoubleword disp bytes)
 
--- a place in memory with reg in its ModRM byte; mod 00 with rm 101 is a disp32 without a base
+-- an address with reg in its ModRM byte; mod 00 with rm 101 is a disp32 without a base
 abbrev pub SpellsMemory : ℕ → Option Reg → ℕ → List ℕ → Type 0
 SpellsMemory reg None disp bytes = (d : List ℕ) × IsDoubleword disp d × (bytes ≡ modrm 0 reg 5 ∷ d)
 SpellsMemory reg (Some base) disp bytes =
-    (mode : ℕ) × (d : List ℕ) × IsDisplacement mode base disp d × (bytes ≡ based mode reg base ++ d)
+    (mode : ℕ) × (d : List ℕ) × IsDisplacement mode base disp d
+    × (bytes ≡ modrm_base mode reg base ++ d)
 
 -- an operand with reg in its ModRM byte; mod 11 is a register
 abbrev pub SpellsRm : ℕ → Rm → List ℕ → Type 0
@@ -104,7 +108,8 @@ Spells (Lea r m) bytes = HasOperand (one_byte 0x8D) (reg_code r) (rms.Mem m) byt
 Spells (Alu op rm r) bytes =
     HasOperand (one_byte (alu_opcode op)) (reg_code r) rm bytes
     ⊎ HasExchanged (one_byte (alu_from_opcode op)) rm r bytes
-Spells (AluFrom op r m) bytes = HasOperand (one_byte (alu_from_opcode op)) (reg_code r) (rms.Mem m) bytes
+Spells (AluFrom op r m) bytes =
+    HasOperand (one_byte (alu_from_opcode op)) (reg_code r) (rms.Mem m) bytes
 Spells (AluImm op rm n) bytes =
     HasOperandImmediate IsSignedByte (one_byte 0x83) (alu_code op) rm n bytes
     ⊎ HasOperandImmediate IsDoubleword (one_byte 0x81) (alu_code op) rm n bytes
@@ -114,7 +119,8 @@ Spells (Dec r) bytes = bytes ≡ one_byte (0x48 + reg_code r)
 Spells (Push r) bytes = bytes ≡ one_byte (0x50 + reg_code r)
 Spells (Pop r) bytes = bytes ≡ one_byte (0x58 + reg_code r)
 Spells (PushImm n) bytes = HasImmediate IsDoubleword (one_byte 0x68) n bytes
-Spells (Shift op rm count) bytes = HasOperandImmediate IsByte (one_byte 0xC1) (shift_code op) rm count bytes
+Spells (Shift op rm count) bytes =
+    HasOperandImmediate IsByte (one_byte 0xC1) (shift_code op) rm count bytes
 Spells (Imul r rm) bytes = HasOperand (two_byte 0xAF) (reg_code r) rm bytes
 Spells (Unary op rm) bytes = HasOperand (one_byte 0xF7) (unary_code op) rm bytes
 Spells (Jmp rel) bytes =
@@ -132,6 +138,6 @@ Spells Nop bytes = bytes ≡ one_byte 0x90
 abbrev pub Begins : Ins → ℕ → List ℕ → Type 0
 Begins ins n bytes = (n ≤ length bytes) × Spells ins (take n bytes)
 
--- No front of the bytes spells an instruction.
+-- No prefix of the bytes spells an instruction.
 abbrev pub NoneBegins : List ℕ → Type 0
 NoneBegins bytes = (ins : Ins) (n : ℕ) → ¬ Begins ins n bytes

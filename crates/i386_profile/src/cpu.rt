@@ -7,7 +7,7 @@ ghost use Rattle.i386_profile.specs.Effects.{address};
 use crate::operands::{Mem, Reg};
 
 /// The registers and the four flags that instructions of the profile set and test.
-#[derive(Clone, Copy, Debug, PartialEq, Eq)]
+#[derive(Clone, Copy)]
 pub struct Cpu {
     /// The general registers, by their numbers.
     pub regs: [u32; 8],
@@ -24,9 +24,10 @@ pub struct Cpu {
 }
 
 /// Why an instruction could not be carried out, with the number of the fault.
-#[derive(Clone, Copy, Debug, PartialEq, Eq)]
+#[derive(Clone, Copy)]
 pub enum FaultKind {
-    /// No instruction of the profile stands there. `exec` never answers it: it is for the caller of `decode`.
+    /// No instruction of the profile stands there. `exec` never answers it: it is for the caller of
+    /// `decode`.
     Instruction = 1,
     /// An access passes the segment's end.
     Segment = 2,
@@ -35,7 +36,7 @@ pub enum FaultKind {
 }
 
 /// What an instruction led to.
-#[derive(Clone, Copy, Debug, PartialEq, Eq)]
+#[derive(Clone, Copy)]
 pub enum Step {
     /// The instruction at `eip` is next.
     Next,

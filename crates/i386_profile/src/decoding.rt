@@ -8,11 +8,11 @@ ghost use Rattle.i386_profile.specs.declared.ins.Ins.{Ins as InsView};
 use crate::ins::Ins;
 use crate::reading::instruction;
 
-/// No front of the bytes spells an instruction.
-#[derive(Clone, Copy, Debug, PartialEq, Eq)]
+/// No prefix of the bytes spells an instruction.
+#[derive(Clone, Copy)]
 pub struct Undecoded;
 
-/// The instruction at the front of the bytes, and how many of them spell it.
+/// The instruction that the bytes begin with, and how many of them spell it.
 fn first(bytes: &[u8]) -> Result<(Ins, usize), Undecoded>
     ensures found { IfOk result (λ r. Begins r.0 r.1 bytes.now) }
     ensures only { (ins : InsView) (n : ℕ) → Begins ins n bytes.now → result ≡ Ok (ins, n) }
@@ -26,14 +26,15 @@ fn first(bytes: &[u8]) -> Result<(Ins, usize), Undecoded>
     }
 }
 
-/// The instruction that some front of the bytes from `at` on spells, and that front's length. `Undecoded` comes
-/// exactly where no front spells one.
+/// The instruction that some prefix of the bytes from `at` on spells, and that prefix's length.
+/// `Undecoded` comes exactly where no prefix spells one.
 pub fn decode(bytes: &[u8], at: usize) -> Result<(Ins, usize), Undecoded>
     requires { at < length bytes.now }
     // What is answered is spelled there.
     ensures found { IfOk result (λ r. Begins r.0 r.1 (drop at bytes.now)) }
     // What is spelled there is answered.
-    ensures only { (ins : InsView) (n : ℕ) → Begins ins n (drop at bytes.now) → result ≡ Ok (ins, n) }
+    ensures only { (ins : InsView) (n : ℕ) → Begins ins n (drop at bytes.now)
+        → result ≡ Ok (ins, n) }
     ensures undecoded { IsErr result ↔ NoneBegins (drop at bytes.now) }
 
     ensures least { IfOk result (λ r. 1 ≤ r.1) }
@@ -44,7 +45,7 @@ pub fn decode(bytes: &[u8], at: usize) -> Result<(Ins, usize), Undecoded>
     first(from)
 }
 
-/// No spelling is a proper front of another, and no bytes spell two instructions.
+/// No spelling is a proper prefix of another, and no bytes spell two instructions.
 pub fn one_spelling()
     ensures { OneSpelling }
 {}

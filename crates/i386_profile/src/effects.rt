@@ -1,9 +1,9 @@
-//! What an instruction does to registers, flags and the segment. What can lie outside is tried before anything is
-//! changed.
+//! What an instruction does to registers, flags and the segment. What can lie outside is tried
+//! before anything is changed.
 
 ghost use Rattle.std.specs.Prelude.{◌≡◌, ◌≢◌, if◌then◌else◌};
 ghost use Rattle.i386_profile.specs.Segments.{Makes};
-ghost use Rattle.i386_profile.specs.Flags.{set, inc, dec, jumped, holds};
+ghost use Rattle.i386_profile.specs.Flags.{set, inc, dec, jump_state, holds};
 ghost use Rattle.i386_profile.specs.Effects.{state, step_of, load_rm, store_rm, after_mov_from, after_byte_to, after_byte_from, after_widen};
 ghost use Rattle.i386_profile.specs.Effects.{after_alu, after_alu_from, after_test, after_shift, after_imul, after_not, after_neg, after_mul, after_div};
 ghost use Rattle.i386_profile.specs.Effects.{after_push, after_pop, after_call, after_ret, does_unary, Answers, Does, IsKeptByFault};
@@ -83,6 +83,7 @@ fn widen<S: Segment>(r: Reg, m: Mem, cpu: &mut Cpu, seg: &mut S) -> Result<(), O
 
 /// `op rm, b`
 #[tactic(auto, unfolding(crate::specs::Effects::after_alu))]
+#[inline(always)]
 fn alu<S: Segment>(op: AluOp, rm: Rm, b: u32, cpu: &mut Cpu, seg: &mut S) -> Result<(), Outside>
     ensures { Makes (after_alu op rm b) result
         (state cpu.old (S.bytes seg.old)) (state cpu.new (S.bytes seg.new)) }
@@ -124,6 +125,7 @@ fn test<S: Segment>(rm: Rm, b: u32, cpu: &mut Cpu, seg: &mut S) -> Result<(), Ou
 
 /// `shl`, `shr`, `sar`
 #[tactic(auto, unfolding(crate::specs::Effects::after_shift))]
+#[inline(always)]
 fn shift<S: Segment>(
     op: ShiftOp,
     rm: Rm,
@@ -300,7 +302,7 @@ fn decrement(r: Reg, cpu: &mut Cpu) -> Step
 /// `jmp`
 fn jump(rel: u32, cpu: &mut Cpu) -> Step
     ensures next { result ≡ Step.Next }
-    ensures target { cpu.new ≡ jumped cpu.old rel }
+    ensures target { cpu.new ≡ jump_state cpu.old rel }
 {
     cpu.eip = cpu.eip.wrapping_add(rel);
     Step::Next
@@ -309,7 +311,7 @@ fn jump(rel: u32, cpu: &mut Cpu) -> Step
 /// A jump under a condition.
 fn jump_if(c: Cond, rel: u32, cpu: &mut Cpu) -> Step
     ensures next { result ≡ Step.Next }
-    ensures target { cpu.new ≡ (if holds c cpu.old then jumped cpu.old rel else cpu.old) }
+    ensures target { cpu.new ≡ (if holds c cpu.old then jump_state cpu.old rel else cpu.old) }
 {
     if cpu.holds(c) {
         jump(rel, cpu)
@@ -319,6 +321,7 @@ fn jump_if(c: Cond, rel: u32, cpu: &mut Cpu) -> Step
 }
 
 /// `not`, `neg`, `mul`, `div`
+#[inline(always)]
 fn unary<S: Segment>(op: UnaryOp, rm: Rm, cpu: &mut Cpu, seg: &mut S) -> Step
     ensures effect { Answers (does_unary op rm (state cpu.old (S.bytes seg.old))) result
         (state cpu.old (S.bytes seg.old)) (state cpu.new (S.bytes seg.new)) }
@@ -332,8 +335,10 @@ fn unary<S: Segment>(op: UnaryOp, rm: Rm, cpu: &mut Cpu, seg: &mut S) -> Step
     }
 }
 
-/// Carries one instruction out. On entry `cpu.eip` is the offset after it. `Fault(Segment)` comes exactly where an
-/// access lies outside, `Fault(Divide)` exactly where a divisor is 0 or a quotient passes 32 bits.
+/// Carries one instruction out. On entry `cpu.eip` is the offset after it. `Fault(Segment)` comes
+/// exactly where an access lies outside, `Fault(Divide)` exactly where a divisor is 0 or a quotient
+/// passes 32 bits.
+#[inline(always)]
 pub fn exec<S: Segment>(ins: &Ins, cpu: &mut Cpu, seg: &mut S) -> Step
     ensures effect { Does ins.now result
         (state cpu.old (S.bytes seg.old)) (state cpu.new (S.bytes seg.new)) }

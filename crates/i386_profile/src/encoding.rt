@@ -2,7 +2,7 @@
 
 ghost use Rattle.std.specs.Prelude.{◌≡◌, ◌+◌, ◌≤◌, ◌<◌, [], ◌∷◌, ◌++◌, length, drop};
 ghost use Rattle.i386_profile.specs.Codes.{reg_code};
-ghost use Rattle.i386_profile.specs.Spelling.{based, one_byte, two_byte};
+ghost use Rattle.i386_profile.specs.Spelling.{modrm_base, one_byte, two_byte};
 ghost use Rattle.i386_profile.specs.Chosen.{low_byte, doubleword, is_signed_byte, chosen_memory, chosen_rm, chosen_alu_imm, chosen};
 ghost use Rattle.i386_profile.specs.Laws.{ChosenSpells, RoundTrip};
 
@@ -26,11 +26,11 @@ fn low_byte(n: u32, w: &mut Writer)
 
 /// ModRM with a base, and the SIB byte that esp takes.
 #[tactic(auto, unfolding(crate::specs::Spelling::modrm))]
-fn based(mode: u8, reg: u8, base: Reg, w: &mut Writer)
+fn modrm_base(mode: u8, reg: u8, base: Reg, w: &mut Writer)
     requires mode { mode < 4 }
     requires reg { reg < 8 }
     requires room { length w.old ≤ 14 }
-    ensures { w.new ≡ w.old ++ based mode reg base }
+    ensures { w.new ≡ w.old ++ modrm_base mode reg base }
 {
     w.byte(64 * mode + 8 * reg + base.code());
     if base == Reg::Esp {
@@ -51,12 +51,12 @@ fn memory(reg: u8, m: Mem, w: &mut Writer)
         }
         Some(base) => {
             if m.disp == 0 && base.code() != 5 {
-                based(0, reg, base, w);
+                modrm_base(0, reg, base, w);
             } else if is_signed_byte(m.disp) {
-                based(1, reg, base, w);
+                modrm_base(1, reg, base, w);
                 low_byte(m.disp, w);
             } else {
-                based(2, reg, base, w);
+                modrm_base(2, reg, base, w);
                 w.doubleword(m.disp);
             }
         }
@@ -86,7 +86,7 @@ fn slash(opcode: u8, reg: u8, rm: Rm, w: &mut Writer)
     operand(reg, rm, w);
 }
 
-/// The same behind 0F.
+/// The same after 0F.
 fn escaped(opcode: u8, r: Reg, rm: Rm, w: &mut Writer)
     requires empty { w.old ≡ [] }
     ensures { w.new ≡ two_byte opcode ++ chosen_rm (reg_code r) rm }
@@ -189,8 +189,8 @@ fn write(ins: Ins, w: &mut Writer)
     }
 }
 
-/// Writes the chosen spelling at the front of `out`, leaves the rest, and answers the spelling's length in
-/// bytes.
+/// Writes the chosen spelling at the beginning of `out`, leaves the rest, and answers the
+/// spelling's length in bytes.
 pub fn encode(ins: &Ins, out: &mut [u8; 16]) -> usize
     ensures written { out.new ≡ chosen ins.now ++ drop result out.old }
     ensures length { result ≡ length (chosen ins.now) }

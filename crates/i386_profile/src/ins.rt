@@ -1,4 +1,5 @@
-//! The instructions. Their spellings are in docs/I386.md, as a table in the order of the variants here.
+//! The instructions. Their spellings are in docs/I386.md, as a table in the order of the variants
+//! here.
 
 ghost use Rattle.std.specs.Prelude.{◌≡◌};
 ghost use Rattle.i386_profile.specs.Codes.{alu_code, shift_code, unary_code, cond_code};
@@ -6,7 +7,7 @@ ghost use Rattle.i386_profile.specs.Codes.{alu_code, shift_code, unary_code, con
 use crate::operands::{ByteReg, Mem, Reg, Rm};
 
 /// An operation of two operands, with the number that selects it in opcodes 81 and 83.
-#[derive(Clone, Copy, Debug, PartialEq, Eq)]
+#[derive(Clone, Copy, PartialEq)]
 pub enum AluOp {
     Add = 0,
     Or = 1,
@@ -25,7 +26,7 @@ impl AluOp {
 }
 
 /// A shift, with the number that selects it in opcode C1.
-#[derive(Clone, Copy, Debug, PartialEq, Eq)]
+#[derive(Clone, Copy)]
 pub enum ShiftOp {
     Shl = 4,
     Shr = 5,
@@ -41,7 +42,7 @@ impl ShiftOp {
 }
 
 /// An operation of one operand, with the number that selects it in opcode F7.
-#[derive(Clone, Copy, Debug, PartialEq, Eq)]
+#[derive(Clone, Copy)]
 pub enum UnaryOp {
     Not = 2,
     Neg = 3,
@@ -57,9 +58,9 @@ impl UnaryOp {
     }
 }
 
-/// A condition of a jump, with its number. Each odd one is the negation of the one before. The numbers 10 and 11,
-/// of the parity flag, are left out.
-#[derive(Clone, Copy, Debug, PartialEq, Eq)]
+/// A condition of a jump, with its number. Each odd one is the negation of the one before. The
+/// numbers 10 and 11, of the parity flag, are left out.
+#[derive(Clone, Copy)]
 pub enum Cond {
     /// overflow
     O = 0,
@@ -99,8 +100,9 @@ impl Cond {
     }
 }
 
-/// An instruction with its operands, the destination first. Immediates and relative targets are modulo 2^32.
-#[derive(Clone, Copy, Debug, PartialEq, Eq)]
+/// An instruction with its operands, the destination first. Immediates and relative targets are
+/// modulo 2^32.
+#[derive(Clone, Copy)]
 pub enum Ins {
     /// `mov r, n`
     Load(Reg, u32),

@@ -1,5 +1,5 @@
-//! Reading an instruction from the front of some bytes. Each reader answers what it read and the bytes after it, or
-//! `None` where the front is no such thing.
+//! Reading an instruction from the beginning of some bytes. Each reader answers what it read and
+//! the bytes after it, or `None` where they begin with no such thing.
 
 ghost use Rattle.std.specs.Prelude.{◌≡◌, ◌<◌, option_map};
 ghost use Rattle.i386_profile.specs.Codes.{reg_code};
@@ -113,8 +113,8 @@ fn doubleword(bytes: &[u8]) -> Option<(u32, &[u8])>
     if bytes.len() < 4 {
         return None;
     }
-    let (front, rest) = bytes.split_at(4);
-    let number = u32::from_le_bytes([front[0], front[1], front[2], front[3]]);
+    let (prefix, rest) = bytes.split_at(4);
+    let number = u32::from_le_bytes([prefix[0], prefix[1], prefix[2], prefix[3]]);
     Some((number, rest))
 }
 
@@ -179,8 +179,10 @@ struct ModRm {
 }
 
 #[tactic(auto, unfolding(crate::specs::Reading::operands_at))]
+#[inline(always)]
 fn operands(bytes: &[u8]) -> Option<(ModRm, &[u8])>
-    ensures { option_map (λ x. (record { reg = x.0.reg; rm = x.0.rm }, x.1.now)) result ≡ operands_at bytes.now }
+    ensures { option_map (λ x. (record { reg = x.0.reg; rm = x.0.rm }, x.1.now)) result
+        ≡ operands_at bytes.now }
 {
     let (modrm, rest) = byte(bytes)?;
     let (rm, rest) = rm(modrm / 64, modrm % 8, rest)?;
@@ -220,7 +222,7 @@ fn register(opcode: u8, bytes: &[u8]) -> Option<(Ins, &[u8])>
     }
 }
 
-/// 68, B8 to BF, E8, E9: a doubleword behind the opcode.
+/// 68, B8 to BF, E8, E9: a doubleword after the opcode.
 #[tactic(auto, unfolding(crate::specs::Reading::immediate_at))]
 fn immediate(opcode: u8, bytes: &[u8]) -> Option<(Ins, &[u8])>
     ensures { option_map (λ x. (x.0, x.1.now)) result ≡ immediate_at opcode bytes.now }
@@ -246,7 +248,7 @@ fn short_jcc(opcode: u8, bytes: &[u8]) -> Option<(Ins, &[u8])>
     Some((Ins::Jcc(cond, rel), rest))
 }
 
-/// 80 to 8F behind 0F: the same with a distance of four bytes.
+/// 80 to 8F after 0F: the same with a distance of four bytes.
 #[tactic(auto, unfolding(crate::specs::Reading::jcc_at))]
 fn jcc(opcode: u8, bytes: &[u8]) -> Option<(Ins, &[u8])>
     ensures { option_map (λ x. (x.0, x.1.now)) result ≡ jcc_at opcode bytes.now }
@@ -354,7 +356,7 @@ fn unary(bytes: &[u8]) -> Option<(Ins, &[u8])>
     Some((Ins::Unary(op, operands.rm), rest))
 }
 
-/// AF behind 0F.
+/// AF after 0F.
 #[tactic(auto, unfolding(crate::specs::Reading::imul_at))]
 fn imul(bytes: &[u8]) -> Option<(Ins, &[u8])>
     ensures { option_map (λ x. (x.0, x.1.now)) result ≡ imul_at bytes.now }
@@ -370,7 +372,7 @@ fn low_byte(r: Reg) -> Option<ByteReg>
     byte_reg(r.code())
 }
 
-/// B6 behind 0F.
+/// B6 after 0F.
 #[tactic(auto, unfolding(crate::specs::Reading::widen_at))]
 fn widen(bytes: &[u8]) -> Option<(Ins, &[u8])>
     ensures { option_map (λ x. (x.0, x.1.now)) result ≡ widen_at bytes.now }
@@ -444,7 +446,7 @@ fn high(opcode: u8, bytes: &[u8]) -> Option<(Ins, &[u8])>
     }
 }
 
-/// The instruction at the front.
+/// The instruction at the beginning.
 #[tactic(auto, unfolding(crate::specs::Reading::instruction_at))]
 pub(crate) fn instruction(bytes: &[u8]) -> Option<(Ins, &[u8])>
     ensures { option_map (λ x. (x.0, x.1.now)) result ≡ instruction_at bytes.now }

@@ -4,11 +4,12 @@ ghost use Rattle.std.specs.Prelude.{◌≡◌, ℕ, List};
 ghost use Rattle.i386_profile.specs.Segments.{load8, load32, store8, store32, Makes};
 
 /// An access passes the segment's end.
-#[derive(Clone, Copy, Debug, PartialEq, Eq)]
+#[derive(Clone, Copy)]
 pub struct Outside;
 
-/// Bytes at the offsets from 0 on. Doublewords are little-endian and may stand at any offset. A call is `Outside`
-/// exactly where its offset plus its width, 1 or 4, passes the length, and then changes nothing.
+/// Bytes at the offsets from 0 on. Doublewords are little-endian and may stand at any offset. A
+/// call is `Outside` exactly where its offset plus its width, 1 or 4, passes the length, and then
+/// changes nothing.
 pub trait Segment {
     // The bytes from offset 0 on.
     ghost bytes: { Self → List ℕ };

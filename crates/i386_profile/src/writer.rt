@@ -48,9 +48,9 @@ impl Writer {
         self.byte(d);
     }
 
-    /// Copies what was written to the front of `out`, and answers how many bytes that is.
+    /// Copies what was written to the beginning of `out`, and answers how many bytes that is.
     pub(crate) fn copy_to(&self, out: &mut [u8; 16]) -> usize
-        ensures front { out.new ≡ self.now ++ drop (length self.now) out.old }
+        ensures prefix { out.new ≡ self.now ++ drop (length self.now) out.old }
         ensures length { result ≡ length self.now }
         ensures within { result ≤ 16 }
     {

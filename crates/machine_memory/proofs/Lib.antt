@@ -1,5 +1,6 @@
 pub mod DeviceLemmas
 pub mod DmaLemmas
+pub mod Inside
 pub mod MemoryLemmas
 pub mod PartLent
 pub mod Pieces

@@ -1,5 +1,7 @@
 -- What is true of every memory stays true where it changes.
-use Rattle.std.proofs.Common.{◌≡◌, ℕ, ◌+◌, ◌-◌, ◌*◌, ◌<◌, ◌≤◌, ◌^◌, List, length, replicate, refl, sym, ap, ◌∙◌, inl, inr, arith, lit<, Bool, true, false, Some, slice_get, set, [], ◌∷◌}
+use Rattle.std.proofs.Common.{◌≡◌, ℕ, ◌+◌, ◌-◌, ◌<◌, ◌≤◌, ◌^◌, List, length, replicate, refl}
+use Rattle.std.proofs.Common.{sym, ap, ◌∙◌, inl, inr, arith, lit<, Bool, true, false, Some}
+use Rattle.std.proofs.Common.{slice_get, set, [], ◌∷◌}
 use Rattle.std.specs.Option.{option_map}
 use Rattle.std.specs.List.{refill}
 use Rattle.std.proofs.lemmas.Bool.{cases_lt, both_ways}
@@ -11,46 +13,59 @@ use Rattle.region_pool.specs.Marks.{is_free}
 use Rattle.region_pool.specs.Places.{IsPlace}
 use Rattle.region_pool.specs.Spans.{Span, end_of, marks_of, Holds}
 use Rattle.region_pool.proofs.Frames.{slice_get-replicate, same_at_each}
-use Rattle.region_pool.proofs.HeldSpans.{replaces-replaced, length-marks_of, stands-from_held, taken-stands}
-use Rattle.region_pool.proofs.PoolMarks.{pool-with_span, pool-without_span, held-with_span, pool-replicate}
+use Rattle.region_pool.proofs.HeldSpans.{replaces-with_marks, length-marks_of, stands-from_held}
+use Rattle.region_pool.proofs.HeldSpans.{taken-stands}
+use Rattle.region_pool.proofs.PoolMarks.{pool-with_span, pool-without_span, held-with_span}
+use Rattle.region_pool.proofs.PoolMarks.{pool-replicate}
 use Rattle.region_pool.proofs.Search.{free-place, within-place}
 use Rattle.machine_memory.specs.Writes.{part, written}
-use Rattle.machine_memory.specs.Contents.{Contents, IsMemory, IsFree, first_byte, frame_of, frame_count, blank, after_power_cycle}
+use Rattle.machine_memory.specs.Contents.{Contents, IsMemory, IsFree, first_byte, frame_of}
+use Rattle.machine_memory.specs.Contents.{frame_count, blank, after_power_cycle}
 use Rattle.machine_memory.specs.Spans.{LiesInSpan, bytes_of, with_bytes, after_take, after_give}
 use Rattle.machine_memory.specs.LentSpans.{after_loan}
 use Rattle.machine_memory.specs.DeviceWrites.{may_write}
-use Rattle.machine_memory.proofs.Pieces.{refill-long, lent_back-set, length-refill, writes-written, slice_get-part, length-part}
+use Rattle.machine_memory.proofs.Pieces.{refill-long, lent_back-set, length-refill, writes-written}
+use Rattle.machine_memory.proofs.Pieces.{slice_get-part, length-part}
 use Rattle.machine_memory.proofs.DeviceLemmas.{may_write-true, may_write-past}
 
 -- as many bytes as the frames have
-pub size_by_marks : (memory : Contents) → IsMemory memory → length memory.bytes ≡ 4096 * length memory.marks
-size_by_marks memory m = m.size ∙ ap (λ (n : ℕ). 4096 * n) (sym m.frames)
+pub size_by_marks : (memory : Contents) → IsMemory memory
+    → length memory.bytes ≡ first_byte (length memory.marks)
+size_by_marks memory m = m.size ∙ ap (λ (n : ℕ). first_byte n) (sym m.frames)
 
-pub size_by_bits : (memory : Contents) → IsMemory memory → length memory.bytes ≡ 4096 * length memory.excluded
-size_by_bits memory m = m.size ∙ ap (λ (n : ℕ). 4096 * n) (sym m.bits)
+pub size_by_bits : (memory : Contents) → IsMemory memory
+    → length memory.bytes ≡ first_byte (length memory.excluded)
+size_by_bits memory m = m.size ∙ ap (λ (n : ℕ). first_byte n) (sym m.bits)
 
 -- a span that is held is in memory, and none of its frames is free
 pub held_within : (marks : List Mark) (span : Span) → Holds marks span → end_of span ≤ length marks
 held_within marks span held = (stands-from_held marks span held).within
 
-pub held-not_free : (memory : Contents) (span : Span) (frame : ℕ) → Holds memory.marks span → span.first ≤ frame → frame < end_of span → IsFree memory frame → ⊥
-held-not_free memory span frame held l h = taken-stands memory.marks span (stands-from_held memory.marks span held) frame l h
+pub held-not_free : (memory : Contents) (span : Span) (frame : ℕ) → Holds memory.marks span
+    → span.first ≤ frame → frame < end_of span → IsFree memory frame → ⊥
+held-not_free memory span frame held l h =
+    taken-stands memory.marks span (stands-from_held memory.marks span held) frame l h
 
-pub lies_within : (memory : Contents) (at count : ℕ) → IsMemory memory → LiesInSpan memory.marks at count → at + count ≤ length memory.bytes
+pub lies_within : (memory : Contents) (at count : ℕ) → IsMemory memory
+    → LiesInSpan memory.marks at count → at + count ≤ length memory.bytes
 lies_within memory at count m s =
     let ends = s.inside.ends in
     let within = held_within memory.marks s.span s.held in
     let size = size_by_marks memory m in
     omega arith
 
-lies-not_free : (memory : Contents) (at count place : ℕ) → LiesInSpan memory.marks at count → at ≤ place → place < at + count → IsFree memory (frame_of place) → ⊥
-lies-not_free memory at count place s l h =
+lies-not_free : (memory : Contents) (at count address : ℕ) → LiesInSpan memory.marks at count
+    → at ≤ address → address < at + count → IsFree memory (frame_of address) → ⊥
+lies-not_free memory at count address s l h =
     let begins = s.inside.begins in
     let ends = s.inside.ends in
-    held-not_free memory s.span (frame_of place) s.held (omega arith) (omega arith)
+    held-not_free memory s.span (frame_of address) s.held (omega arith) (omega arith)
 
 -- bytes of frames that are not free may change
-pub memory-with_bytes : (memory : Contents) (at : ℕ) (piece : List ℕ) → IsMemory memory → at + length piece ≤ length memory.bytes → ((place : ℕ) → at ≤ place → place < at + length piece → IsFree memory (frame_of place) → ⊥) → IsMemory (with_bytes memory at piece)
+pub memory-with_bytes : (memory : Contents) (at : ℕ) (piece : List ℕ) → IsMemory memory
+    → at + length piece ≤ length memory.bytes
+    → ((address : ℕ) → at ≤ address → address < at + length piece → IsFree memory (frame_of address)
+    → ⊥) → IsMemory (with_bytes memory at piece)
 memory-with_bytes memory at piece m fits taken =
     let w = writes-written memory.bytes at piece fits in
     record {
@@ -59,38 +74,47 @@ memory-with_bytes memory at piece m fits taken =
       bits = m.bits;
       size = w.long ∙ m.size;
       free_is_excluded = m.free_is_excluded;
-      free_is_zero = λ frame free place e. elim (cases_lt place at) [
-        | inl l ↦ w.below place l ∙ m.free_is_zero frame free place e
-        | inr l ↦ elim (cases_lt place (at + length piece)) [
-          | inl h ↦ absurd (taken place l h (ap (slice_get memory.marks) e ∙ free))
-          | inr h ↦ w.above place h ∙ m.free_is_zero frame free place e
+      free_is_zero = λ frame free address e. elim (cases_lt address at) [
+        | inl l ↦ w.below address l ∙ m.free_is_zero frame free address e
+        | inr l ↦ elim (cases_lt address (at + length piece)) [
+          | inl h ↦ absurd (taken address l h (ap (slice_get memory.marks) e ∙ free))
+          | inr h ↦ w.above address h ∙ m.free_is_zero frame free address e
         ]
       ];
     }
 
-pub memory-host_write : (memory : Contents) (at : ℕ) (piece : List ℕ) → IsMemory memory → LiesInSpan memory.marks at (length piece) → IsMemory (with_bytes memory at piece)
+pub memory-host_write : (memory : Contents) (at : ℕ) (piece : List ℕ) → IsMemory memory
+    → LiesInSpan memory.marks at (length piece) → IsMemory (with_bytes memory at piece)
 memory-host_write memory at piece m s =
     memory-with_bytes memory at piece m (lies_within memory at (length piece) m s)
-    (λ place l h. lies-not_free memory at (length piece) place s l h)
+    (λ address l h. lies-not_free memory at (length piece) address s l h)
 
 -- what devices may write is in memory, and not free
-pub open_within : (memory : Contents) (at count : ℕ) → IsMemory memory → 1 ≤ count → may_write memory.excluded at count ≡ true → at + count ≤ length memory.bytes
+pub open_within : (memory : Contents) (at count : ℕ) → IsMemory memory → 1 ≤ count
+    → may_write memory.excluded at count ≡ true → at + count ≤ length memory.bytes
 open_within memory at count m some e =
-    elim (cases_lt (4096 * length memory.excluded) (at + count)) [
-      | inl l ↦ absurd (both_ways (may_write memory.excluded at count) (may_write-past memory.excluded at count some l) e)
+    elim (cases_lt (first_byte (length memory.excluded)) (at + count)) [
+      | inl l ↦ absurd
+          (both_ways (may_write memory.excluded at count)
+          (may_write-past memory.excluded at count some l) e)
       | inr l ↦ (let size = size_by_bits memory m in omega arith)
     ]
 
-pub memory-device_write : (memory : Contents) (at : ℕ) (piece : List ℕ) → IsMemory memory → 1 ≤ length piece → may_write memory.excluded at (length piece) ≡ true → IsMemory (with_bytes memory at piece)
+pub memory-device_write : (memory : Contents) (at : ℕ) (piece : List ℕ) → IsMemory memory
+    → 1 ≤ length piece → may_write memory.excluded at (length piece) ≡ true
+    → IsMemory (with_bytes memory at piece)
 memory-device_write memory at piece m some e =
     memory-with_bytes memory at piece m (open_within memory at (length piece) m some e)
-    (λ place l h free.
-    let open' = may_write-true memory.excluded at (length piece) e place l h in
-    let clash : Some true ≡ Some false = sym (m.free_is_excluded (frame_of place) free) ∙ open' in
+    (λ address l h free.
+    let open' = may_write-true memory.excluded at (length piece) e address l h in
+    let clash : Some true ≡ Some false = sym (m.free_is_excluded (frame_of address) free) ∙ open' in
     cc)
 
 -- exclusion bits of frames that are not free may change
-pub memory-with_bits : (memory : Contents) (first : ℕ) (bits : List Bool) → IsMemory memory → first + length bits ≤ length memory.excluded → ((frame : ℕ) → first ≤ frame → frame < first + length bits → IsFree memory frame → ⊥) → IsMemory (record memory { excluded = written memory.excluded first bits })
+pub memory-with_bits : (memory : Contents) (first : ℕ) (bits : List Bool) → IsMemory memory
+    → first + length bits ≤ length memory.excluded
+    → ((frame : ℕ) → first ≤ frame → frame < first + length bits → IsFree memory frame → ⊥)
+    → IsMemory (record memory { excluded = written memory.excluded first bits })
 memory-with_bits memory first bits m fits taken =
     let w = writes-written memory.excluded first bits fits in
     record {
@@ -109,7 +133,10 @@ memory-with_bits memory first bits m fits taken =
     }
 
 -- a part of a held span: so many of its first frames
-pub memory-span_bits : (memory : Contents) (span : Span) (count : ℕ) (bit : Bool) → IsMemory memory → Holds memory.marks span → count ≤ span.frames → IsMemory (record memory { excluded = written memory.excluded span.first (replicate count bit) })
+pub memory-span_bits : (memory : Contents) (span : Span) (count : ℕ) (bit : Bool) → IsMemory memory
+    → Holds memory.marks span → count ≤ span.frames
+    → IsMemory (record
+    memory { excluded = written memory.excluded span.first (replicate count bit) })
 memory-span_bits memory span count bit m held few =
     let long = length-replicate count bit in
     let within = held_within memory.marks span held in
@@ -118,42 +145,65 @@ memory-span_bits memory span count bit m held few =
     memory-with_bits memory span.first (replicate count bit) m (omega arith)
     (λ frame l h. held-not_free memory span frame held l (omega arith))
 
-pub memory-span_bytes : (memory : Contents) (span : Span) (piece : List ℕ) → IsMemory memory → Holds memory.marks span → length piece ≤ first_byte span.frames → IsMemory (with_bytes memory (first_byte span.first) piece)
+pub memory-span_bytes : (memory : Contents) (span : Span) (piece : List ℕ) → IsMemory memory
+    → Holds memory.marks span → length piece ≤ first_byte span.frames
+    → IsMemory (with_bytes memory (first_byte span.first) piece)
 memory-span_bytes memory span piece m held few =
     memory-host_write memory (first_byte span.first) piece m
-    (record { span = span; held = held; inside = record { begins = omega arith; ends = omega arith } })
+    (record {
+      span = span;
+      held = held;
+      inside = record { begins = omega arith; ends = omega arith };
+    })
 
 -- so many of the first frames of a held span are in memory
-pub span_within : (memory : Contents) (span : Span) (frames : ℕ) → IsMemory memory → Holds memory.marks span → frames ≤ span.frames → first_byte span.first + first_byte frames ≤ length memory.bytes
+pub span_within : (memory : Contents) (span : Span) (frames : ℕ) → IsMemory memory
+    → Holds memory.marks span → frames ≤ span.frames
+    → first_byte span.first + first_byte frames ≤ length memory.bytes
 span_within memory span frames m held few =
     let within = held_within memory.marks span held in
     let size = size_by_marks memory m in
     omega arith
 
 -- whatever comes back from a loan of them
-pub memory-after_loan : (memory : Contents) (span : Span) (frames : ℕ) (bytes : List ℕ) → IsMemory memory → Holds memory.marks span → frames ≤ span.frames → IsMemory (after_loan memory (record span { frames = frames }) bytes)
+pub memory-after_loan : (memory : Contents) (span : Span) (frames : ℕ) (bytes : List ℕ)
+    → IsMemory memory → Holds memory.marks span → frames ≤ span.frames
+    → IsMemory (after_loan memory (record span { frames = frames }) bytes)
 memory-after_loan memory span frames bytes m held few =
     let lent = part memory.bytes (first_byte span.first) (first_byte frames) in
-    let long = length-refill (first_byte frames) lent bytes (length-part memory.bytes (first_byte span.first) (first_byte frames) (span_within memory span frames m held few)) in
+    let long = length-refill (first_byte frames) lent bytes
+    (length-part memory.bytes (first_byte span.first) (first_byte frames)
+    (span_within memory span frames m held few)) in
     memory-span_bytes memory span (refill (first_byte frames) lent bytes) m held (omega arith)
 
 -- what comes back is as long as what was lent, as a slice always is
-pub after_loan-long : (memory : Contents) (span : Span) (bytes : List ℕ) → length bytes ≡ first_byte span.frames → after_loan memory span bytes ≡ with_bytes memory (first_byte span.first) bytes
+pub after_loan-long : (memory : Contents) (span : Span) (bytes : List ℕ)
+    → length bytes ≡ first_byte span.frames
+    → after_loan memory span bytes ≡ with_bytes memory (first_byte span.first) bytes
 after_loan-long memory span bytes long =
-    ap (λ (xs : List ℕ). with_bytes memory (first_byte span.first) xs) (refill-long (first_byte span.frames) (bytes_of memory span) bytes long)
+    ap (λ (xs : List ℕ). with_bytes memory (first_byte span.first) xs)
+    (refill-long (first_byte span.frames) (bytes_of memory span) bytes long)
 
 -- one byte of the span was set
-pub after_loan-set : (memory : Contents) (span : Span) (k byte : ℕ) → first_byte span.first + first_byte span.frames ≤ length memory.bytes → k < first_byte span.frames
-    → after_loan memory span (set (bytes_of memory span) k byte) ≡ with_bytes memory (first_byte span.first + k) (byte ∷ [])
+pub after_loan-set : (memory : Contents) (span : Span) (k byte : ℕ)
+    → first_byte span.first + first_byte span.frames ≤ length memory.bytes
+    → k < first_byte span.frames
+    → after_loan memory span (set (bytes_of memory span) k byte)
+    ≡ with_bytes memory (first_byte span.first + k) (byte ∷ [])
 after_loan-set memory span k byte fits inside =
-    ap (λ (bytes : List ℕ). record memory { bytes = bytes }) (lent_back-set memory.bytes (first_byte span.first) (first_byte span.frames) k byte fits inside)
+    ap (λ (bytes : List ℕ). record memory { bytes = bytes })
+    (lent_back-set memory.bytes (first_byte span.first) (first_byte span.frames) k byte fits
+    inside)
 
 -- a span taken
 
-pub memory-after_take : (memory : Contents) (span : Span) (align : ℕ) → IsMemory memory → 1 ≤ span.frames → IsPlace memory.marks span.frames align span.first → IsMemory (after_take memory span)
+pub memory-after_take : (memory : Contents) (span : Span) (align : ℕ) → IsMemory memory
+    → 1 ≤ span.frames → IsPlace memory.marks span.frames align span.first
+    → IsMemory (after_take memory span)
 memory-after_take memory span align m some place =
     let within = within-place memory.marks span.frames align span.first some place in
-    let r = replaces-replaced memory.marks span (marks_of span) within (length-marks_of span some) in
+    let r = replaces-with_marks memory.marks span (marks_of span) within
+    (length-marks_of span some) in
     let long = length-replicate span.frames false in
     let marks = m.frames in
     let bits = m.bits in
@@ -169,7 +219,8 @@ memory-after_take memory span align m some place =
         | inl l ↦ w.below frame l ∙ m.free_is_excluded frame (sym (r.below frame l) ∙ free)
         | inr l ↦ elim (cases_lt frame (end_of span)) [
           | inl h ↦ absurd (held-not_free after span frame held l h free)
-          | inr h ↦ w.above frame (omega arith) ∙ m.free_is_excluded frame (sym (r.above frame h) ∙ free)
+          | inr h ↦ w.above frame (omega arith)
+              ∙ m.free_is_excluded frame (sym (r.above frame h) ∙ free)
         ]
       ];
       free_is_zero = λ frame free. elim (cases_lt frame span.first) [
@@ -182,32 +233,40 @@ memory-after_take memory span align m some place =
     }
 
 -- what is taken was free, so it is zero
-pub zero-after_take : (memory : Contents) (span : Span) (align : ℕ) → IsMemory memory → 1 ≤ span.frames → IsPlace memory.marks span.frames align span.first → bytes_of (after_take memory span) span ≡ replicate (first_byte span.frames) 0
+pub zero-after_take : (memory : Contents) (span : Span) (align : ℕ) → IsMemory memory
+    → 1 ≤ span.frames → IsPlace memory.marks span.frames align span.first
+    → bytes_of (after_take memory span) span ≡ replicate (first_byte span.frames) 0
 zero-after_take memory span align m some place =
     let within = within-place memory.marks span.frames align span.first some place in
     let size = size_by_marks memory m in
-    let long = length-part memory.bytes (first_byte span.first) (first_byte span.frames) (omega arith) in
+    let long = length-part memory.bytes (first_byte span.first) (first_byte span.frames)
+    (omega arith) in
     same_at_each _ _ (long ∙ sym (length-replicate (first_byte span.frames) 0))
     (λ k h.
     let here : k < first_byte span.frames = omega arith in
     let at : ℕ = first_byte span.first + k in
     slice_get-part memory.bytes (first_byte span.first) (first_byte span.frames) k at here refl
-    ∙ m.free_is_zero (frame_of at) (free-place memory.marks span.frames align span.first place (frame_of at) (omega arith) (omega arith)) at refl
+    ∙ m.free_is_zero (frame_of at)
+    (free-place memory.marks span.frames align span.first place (frame_of at) (omega arith)
+    (omega arith)) at refl
     ∙ sym (slice_get-replicate (first_byte span.frames) 0 k here))
 
 -- a span given back
 
-pub memory-after_give : (memory : Contents) (span : Span) → IsMemory memory → Holds memory.marks span → IsMemory (after_give memory span)
+pub memory-after_give : (memory : Contents) (span : Span) → IsMemory memory
+    → Holds memory.marks span → IsMemory (after_give memory span)
 memory-after_give memory span m held =
     let within = held_within memory.marks span held in
-    let r = replaces-replaced memory.marks span (replicate span.frames Free) within (length-replicate span.frames Free) in
+    let r = replaces-with_marks memory.marks span (replicate span.frames Free) within
+    (length-replicate span.frames Free) in
     let long = length-replicate span.frames true in
     let long_zeros = length-replicate {A = ℕ} (first_byte span.frames) 0 in
     let marks = m.frames in
     let bits = m.bits in
     let size = size_by_marks memory m in
     let w = writes-written memory.excluded span.first (replicate span.frames true) (omega arith) in
-    let z = writes-written memory.bytes (first_byte span.first) (replicate (first_byte span.frames) 0) (omega arith) in
+    let z = writes-written memory.bytes (first_byte span.first)
+    (replicate (first_byte span.frames) 0) (omega arith) in
     record {
       pool = pool-without_span memory.marks span held m.pool;
       frames = r.long ∙ m.frames;
@@ -216,15 +275,21 @@ memory-after_give memory span m held =
       free_is_excluded = λ frame free. elim (cases_lt frame span.first) [
         | inl l ↦ w.below frame l ∙ m.free_is_excluded frame (sym (r.below frame l) ∙ free)
         | inr l ↦ elim (cases_lt frame (end_of span)) [
-          | inl h ↦ w.inside (frame - span.first) frame (omega arith) (omega arith) ∙ slice_get-replicate span.frames true (frame - span.first) (omega arith)
-          | inr h ↦ w.above frame (omega arith) ∙ m.free_is_excluded frame (sym (r.above frame h) ∙ free)
+          | inl h ↦ w.inside (frame - span.first) frame (omega arith) (omega arith)
+              ∙ slice_get-replicate span.frames true (frame - span.first) (omega arith)
+          | inr h ↦ w.above frame (omega arith)
+              ∙ m.free_is_excluded frame (sym (r.above frame h) ∙ free)
         ]
       ];
-      free_is_zero = λ frame free place e. elim (cases_lt frame span.first) [
-        | inl l ↦ z.below place (omega arith) ∙ m.free_is_zero frame (sym (r.below frame l) ∙ free) place e
+      free_is_zero = λ frame free address e. elim (cases_lt frame span.first) [
+        | inl l ↦ z.below address (omega arith)
+            ∙ m.free_is_zero frame (sym (r.below frame l) ∙ free) address e
         | inr l ↦ elim (cases_lt frame (end_of span)) [
-          | inl h ↦ z.inside (place - first_byte span.first) place (omega arith) (omega arith) ∙ slice_get-replicate (first_byte span.frames) 0 (place - first_byte span.first) (omega arith)
-          | inr h ↦ z.above place (omega arith) ∙ m.free_is_zero frame (sym (r.above frame h) ∙ free) place e
+          | inl h ↦ z.inside (address - first_byte span.first) address (omega arith) (omega arith)
+              ∙ slice_get-replicate (first_byte span.frames) 0 (address - first_byte span.first)
+              (omega arith)
+          | inr h ↦ z.above address (omega arith)
+              ∙ m.free_is_zero frame (sym (r.above frame h) ∙ free) address e
         ]
       ];
     }
@@ -246,20 +311,22 @@ memory-blank =
       free_is_excluded = λ frame free.
           let within = slice_get_within (replicate frame_count Free) frame Free free in
           slice_get-replicate frame_count true frame (omega arith);
-      free_is_zero = λ frame free place e.
+      free_is_zero = λ frame free address e.
           let within = slice_get_within (replicate frame_count Free) frame Free free in
-          slice_get-replicate (first_byte frame_count) 0 place (omega arith);
+          slice_get-replicate (first_byte frame_count) 0 address (omega arith);
     }
 
-pub memory-after_power_cycle : (memory : Contents) → IsMemory memory → IsMemory (after_power_cycle memory)
+pub memory-after_power_cycle : (memory : Contents) → IsMemory memory
+    → IsMemory (after_power_cycle memory)
 memory-after_power_cycle memory m = record {
   pool = m.pool;
   frames = m.frames;
   bits = length-map memory.marks is_free ∙ m.frames;
   size = length-replicate (first_byte frame_count) 0;
-  free_is_excluded = λ frame free. slice_get-map is_free memory.marks frame ∙ ap (option_map is_free) free;
-  free_is_zero = λ frame free place e.
+  free_is_excluded = λ frame free. slice_get-map is_free memory.marks frame
+      ∙ ap (option_map is_free) free;
+  free_is_zero = λ frame free address e.
       let within = slice_get_within memory.marks frame Free free in
       let marks = m.frames in
-      slice_get-replicate (first_byte frame_count) 0 place (omega arith);
+      slice_get-replicate (first_byte frame_count) 0 address (omega arith);
 }

@@ -1,4 +1,4 @@
--- The sizes, for proofs that want the numbers.
+-- The sizes, for proofs that need the numbers.
 use Rattle.std.proofs.Common.{◌≡◌, refl}
 use Rattle.machine_memory.specs.Contents.{frame_count}
 use Rattle.machine_memory.specs.Areas.{region_frames}

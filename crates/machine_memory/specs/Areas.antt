@@ -5,10 +5,11 @@ use Rattle.region_pool.specs.declared.ticket.Purpose.TheVariants as purpose
 use Rattle.region_pool.specs.Spans.{Span, Holds}
 use Rattle.machine_memory.specs.Writes.{written}
 use Rattle.machine_memory.specs.Contents.{Contents, first_byte}
+use Rattle.machine_memory.specs.declared.sizes.TheConstants.{REGION_FRAMES}
 
 -- how many frames the region has
 unfoldable pub region_frames : ℕ
-region_frames = 16
+region_frames = REGION_FRAMES
 
 -- the span is an area: a launch span of 18 frames at a multiple of 16
 pub record IsArea (marks : List Mark) (span : Span) : Type 0 where
@@ -23,11 +24,13 @@ region_of area = record area { frames = region_frames }
 
 -- memory with the region's frames excluded
 abbrev pub guarded : Contents → Span → Contents
-guarded memory area = record memory { excluded = written memory.excluded area.first (replicate region_frames true) }
+guarded memory area =
+    record memory { excluded = written memory.excluded area.first (replicate region_frames true) }
 
 -- memory with the region's frames no longer excluded
 abbrev pub unguarded : Contents → Span → Contents
-unguarded memory area = record memory { excluded = written memory.excluded area.first (replicate region_frames false) }
+unguarded memory area =
+    record memory { excluded = written memory.excluded area.first (replicate region_frames false) }
 
 -- memory with the region's bytes zero
 abbrev pub erased : Contents → Span → Contents

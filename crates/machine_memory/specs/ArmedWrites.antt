@@ -1,11 +1,13 @@
 -- Device writes that are armed for a turn.
-use Rattle.std.specs.Prelude.{ℕ, List, length, filter, fold, Bool, true, false, ◌&&◌, ◌==◌, Option, Some, is_none, if◌then◌else◌}
+use Rattle.std.specs.Prelude.{ℕ, List, length, filter, fold, Bool, true, false, ◌&&◌, ◌==◌, Option}
+use Rattle.std.specs.Prelude.{Some, is_none, if◌then◌else◌}
 use Rattle.machine_memory.specs.declared.device.DevEnd.{DevEnd}
 use Rattle.machine_memory.specs.declared.device.DevEnd.TheVariants.{Done, Blocked}
 use Rattle.machine_memory.specs.Contents.{Contents}
 use Rattle.machine_memory.specs.DeviceWrites.{device_end, after_device_write}
 
--- a write: the turn that it is armed for, its place and bytes, and how it ended, if it does not wait
+-- a write: the turn that it is armed for, its address and bytes, and how it ended, if it does not
+-- wait
 pub record Armed : Type 0 where
   pub turn : ℕ
   pub at : ℕ

@@ -1,20 +1,22 @@
 -- What memory holds: its bytes, and the mark and the exclusion bit of each frame.
-use Rattle.std.specs.Prelude.{◌≡◌, ℕ, ◌*◌, ◌/◌, List, length, replicate, map, Bool, true, slice_get, Some}
+use Rattle.std.specs.Prelude.{◌≡◌, ℕ, ◌*◌, ◌/◌, List, length, replicate, map, Bool, true, slice_get}
+use Rattle.std.specs.Prelude.{Some}
 use Rattle.region_pool.specs.declared.mark.Mark.{Mark}
 use Rattle.region_pool.specs.declared.mark.Mark.TheVariants.{Free}
 use Rattle.region_pool.specs.Marks.{IsPool, is_free}
+use Rattle.machine_memory.specs.declared.sizes.TheConstants.{FRAME_LEN, FRAMES}
 
 -- how many frames memory has
 unfoldable pub frame_count : ℕ
-frame_count = 1024
+frame_count = FRAMES
 
--- the place of a frame's first byte: a frame has 4,096 bytes
+-- the address of a frame's first byte
 abbrev pub first_byte : ℕ → ℕ
-first_byte frame = 4096 * frame
+first_byte frame = FRAME_LEN * frame
 
--- the frame in which a place lies
+-- the frame in which an address lies
 abbrev pub frame_of : ℕ → ℕ
-frame_of place = place / 4096
+frame_of address = address / FRAME_LEN
 
 -- memory: its bytes, the mark of each frame, and whether devices are kept out of it
 pub record Contents : Type 0 where
@@ -32,7 +34,8 @@ IsExcluded memory frame = slice_get memory.excluded frame ≡ Some true
 
 -- every byte of the frame is zero
 abbrev pub IsZero : Contents → ℕ → Type 0
-IsZero memory frame = (place : ℕ) → frame_of place ≡ frame → slice_get memory.bytes place ≡ Some 0
+IsZero memory frame = (address : ℕ) → frame_of address ≡ frame
+    → slice_get memory.bytes address ≡ Some 0
 
 -- what is true of every memory
 pub record IsMemory (memory : Contents) : Type 0 where
@@ -55,6 +58,7 @@ blank = record {
   excluded = replicate frame_count true;
 }
 
--- memory after a power cycle: all bytes are zero, and of the frames only the free ones stay excluded
+-- memory after a power cycle: all bytes are zero, and of the frames only the free ones stay
+-- excluded
 abbrev pub after_power_cycle : Contents → Contents
 after_power_cycle memory = record memory { bytes = zero_bytes; excluded = map is_free memory.marks }

@@ -1,27 +1,28 @@
 -- What a device's write does.
-use Rattle.std.specs.Prelude.{◌⊎◌, ℕ, ◌+◌, ◌<◌, ◌≤◌, List, length, Bool, true, not, slice_index_or, if◌then◌else◌}
+use Rattle.std.specs.Prelude.{◌⊎◌, ℕ, ◌+◌, ◌<◌, ◌≤◌, List, length, Bool, true, not, slice_index_or}
+use Rattle.std.specs.Prelude.{if◌then◌else◌}
 use Rattle.std.specs.List.{list_all, range_with_len}
 use Rattle.machine_memory.specs.declared.device.DevEnd.{DevEnd}
 use Rattle.machine_memory.specs.declared.device.DevEnd.TheVariants.{Done, Blocked}
 use Rattle.machine_memory.specs.Contents.{Contents, IsExcluded, frame_of}
 use Rattle.machine_memory.specs.Spans.{with_bytes}
 
--- a place is shut to devices: it lies past memory, or in an excluded frame
+-- an address is shut to devices: it lies past memory, or in an excluded frame
 abbrev pub IsShut : Contents → ℕ → Type 0
-IsShut memory place = (length memory.bytes ≤ place) ⊎ IsExcluded memory (frame_of place)
+IsShut memory address = (length memory.bytes ≤ address) ⊎ IsExcluded memory (frame_of address)
 
--- some of so many bytes from a place on is shut to devices
+-- some of so many bytes from an address on is shut to devices
 pub record HasShutByte (memory : Contents) (at count : ℕ) : Type 0 where
-  pub place : ℕ
-  pub from : at ≤ place
-  pub before : place < at + count
-  pub shut : IsShut memory place
+  pub address : ℕ
+  pub from : at ≤ address
+  pub before : address < at + count
+  pub shut : IsShut memory address
 
--- whether a place lies in a frame that is not excluded
+-- whether an address lies in a frame that is not excluded
 abbrev pub is_open : List Bool → ℕ → Bool
-is_open excluded place = not (slice_index_or excluded (frame_of place) true)
+is_open excluded address = not (slice_index_or excluded (frame_of address) true)
 
--- whether a device may write so many bytes from a place on: each of them is open
+-- whether a device may write so many bytes from an address on: each of them is open
 unfoldable pub may_write : List Bool → ℕ → ℕ → Bool
 may_write excluded at count = list_all (is_open excluded) (range_with_len at count)
 

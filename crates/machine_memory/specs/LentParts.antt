@@ -6,11 +6,12 @@ use Rattle.machine_memory.specs.declared.bytes.Bytes.{Bytes}
 use Rattle.machine_memory.specs.contracts.bytes.Bytes.{the_row}
 use Rattle.machine_memory.specs.Writes.{lent_back}
 
--- the slice ends with what was written through the loan in the part's place
+-- the slice ends with what was written through the loan where the part is
 abbrev pub LendsPart : MutBor (List ℕ) → ℕ → ℕ → MutBor (List ℕ) → Fml
-LendsPart bytes at count loan = Lends (Array u8 0) (Array u8 0) bytes loan (lent_back bytes.now at count)
+LendsPart bytes at count loan =
+    Lends (Array u8 0) (Array u8 0) bytes loan (lent_back bytes.now at count)
 
--- the bytes with others in their place
+-- the bytes with others in their stead
 abbrev pub with_others : Bytes → List ℕ → Bytes
 with_others bytes others = record bytes { items = with_items bytes.items others }
 
@@ -18,7 +19,8 @@ with_others bytes others = record bytes { items = with_items bytes.items others 
 abbrev pub LendsWhole : MutBor Bytes → MutBor (List ℕ) → Fml
 LendsWhole bytes loan = Lends the_row (Array u8 0) bytes loan (with_others bytes.now)
 
--- they end with what was written through the loan in the part's place
+-- they end with what was written through the loan where the part is
 abbrev pub LendsBytes : MutBor Bytes → ℕ → ℕ → MutBor (List ℕ) → Fml
 LendsBytes bytes at count loan =
-    Lends the_row (Array u8 0) bytes loan (λ piece. with_others bytes.now (lent_back bytes.now.items.items at count piece))
+    Lends the_row (Array u8 0) bytes loan
+    (λ piece. with_others bytes.now (lent_back bytes.now.items.items at count piece))

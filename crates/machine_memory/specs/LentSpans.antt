@@ -13,10 +13,10 @@ after_loan memory span bytes = record memory {
   bytes = lent_back memory.bytes (first_byte span.first) (first_byte span.frames) bytes;
 }
 
--- memory ends with what was written through the loan in the span's place
+-- memory ends with what was written through the loan where the span is
 abbrev pub LendsSpan : MutBor Contents → Span → MutBor (List ℕ) → Fml
 LendsSpan memory span loan = Lends the_row (Array u8 0) memory loan (after_loan memory.now span)
 
--- memory ends with what was written through the loan in the region's place
+-- memory ends with what was written through the loan where the region is
 abbrev pub LendsRegion : MutBor Contents → Span → MutBor (List ℕ) → Fml
 LendsRegion memory area loan = LendsSpan memory (region_of area) loan

@@ -6,3 +6,4 @@ pub mod DeviceWrites
 pub mod ArmedWrites
 pub mod LentParts
 pub mod LentSpans
+pub mod HostMemory

@@ -9,7 +9,8 @@ use Rattle.machine_memory.specs.Contents.{Contents, first_byte}
 abbrev pub bytes_of : Contents → Span → List ℕ
 bytes_of memory span = part memory.bytes (first_byte span.first) (first_byte span.frames)
 
--- so many bytes from a place on lie in the span; where there are none, the place lies in it or at its end
+-- so many bytes from an address on lie in the span; where there are none, the address lies in it or
+-- at its end
 pub record LiesIn (span : Span) (at count : ℕ) : Type 0 where
   pub begins : first_byte span.first ≤ at
   pub ends : at + count ≤ first_byte (end_of span)
@@ -20,7 +21,7 @@ pub record LiesInSpan (marks : List Mark) (at count : ℕ) : Type 0 where
   pub held : Holds marks span
   pub inside : LiesIn span at count
 
--- memory with bytes written from a place on
+-- memory with bytes written from an address on
 abbrev pub with_bytes : Contents → ℕ → List ℕ → Contents
 with_bytes memory at bytes = record memory { bytes = written memory.bytes at bytes }
 

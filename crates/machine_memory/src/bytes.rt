@@ -5,7 +5,7 @@ ghost use Rattle.machine_memory.specs.Writes.{part};
 ghost use Rattle.machine_memory.specs.LentParts.{LendsPart, LendsWhole, LendsBytes};
 
 /// A list of bytes, in a struct of its own so that a clause can say what a loan of a part leaves.
-#[derive(Debug, Drop)]
+#[derive(Drop)]
 pub(crate) struct Bytes {
     pub(crate) items: Vec<u8>,
 }
@@ -28,7 +28,7 @@ impl Bytes {
         self.items.as_mut_slice()
     }
 
-    /// Lends so many bytes from a place on.
+    /// Lends so many bytes from an index on.
     pub(crate) fn part(&mut self, at: usize, count: usize) -> &mut [u8]
         requires { at + count ≤ length self.old.items.items }
         ensures* lends { sem 𝓛 (LendsBytes self.entry at count result) }

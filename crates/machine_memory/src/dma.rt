@@ -1,7 +1,9 @@
 //! Device writes that are armed for the turns of a session.
-ghost use Rattle.std.specs.Prelude.{◌≡◌, [], ◌∷◌, ◌++◌, map, count_by, None, OnOk, OnErr, if◌then◌else◌};
+ghost use Rattle.std.specs.Prelude.{◌≡◌, [], ◌∷◌, ◌++◌, map, count_by, None, OnOk, OnErr};
+ghost use Rattle.std.specs.Prelude.{if◌then◌else◌};
 ghost use Rattle.machine_memory.specs.DeviceWrites.{after_device_write};
-ghost use Rattle.machine_memory.specs.ArmedWrites.{Armed, is_waiting, is_done, is_blocked, is_due, memory_after_turn, ended_by};
+ghost use Rattle.machine_memory.specs.ArmedWrites.{Armed, is_waiting, is_done, is_blocked, is_due};
+ghost use Rattle.machine_memory.specs.ArmedWrites.{memory_after_turn, ended_by};
 
 use crate::device::DevEnd;
 use crate::memory::Memory;
@@ -10,7 +12,7 @@ use std::alloc::Global;
 use std::marker::Model;
 
 /// A write of a device. Contracts see its values.
-#[derive(Debug, Drop)]
+#[derive(Drop)]
 struct ArmedWrite {
     turn: u32,
     at: u32,
@@ -23,7 +25,12 @@ impl Model for ArmedWrite {
 
     ghost Value = { Armed };
 
-    ghost view = { λ w. record { turn = w.turn; at = w.at; bytes = w.bytes.items; ended = w.ended } };
+    ghost view = { λ w. record {
+      turn = w.turn;
+      at = w.at;
+      bytes = w.bytes.items;
+      ended = w.ended;
+    } };
 }
 
 impl ArmedWrite {
@@ -48,7 +55,7 @@ impl ArmedWrite {
 }
 
 /// Writes of devices, in the order of arming: each waits for its turn, or it was done or blocked.
-#[derive(Debug, Drop)]
+#[derive(Drop)]
 pub struct Dma {
     writes: Vec<ArmedWrite>,
 }
@@ -72,7 +79,7 @@ impl Dma {
         }
     }
 
-    /// Arms a write for a turn, behind all that were armed before.
+    /// Arms a write for a turn, after all that were armed before.
     ///
     /// # Errors
     ///

@@ -35,7 +35,7 @@ pub fn taken_frame_law(memory: &Memory, frame: u32)
     frame_span_law(&memory.pool, frame);
 }
 
-/// The law of loans: what comes back, as long as what was lent, stands in the span's place.
+/// The law of loans: what comes back, as long as what was lent, stands where the span does.
 pub fn loan_law()
     ensures { (memory : Contents) (span : Span) (bytes : List ℕ)
         → length bytes ≡ first_byte span.frames

@@ -1,5 +1,5 @@
-//! The machine's memory: bytes, taken in spans of frames, and for each frame whether devices are kept
-//! out of it. A frame that is free is zero, and devices are kept out of it.
+//! The machine's memory: bytes, taken in spans of frames, and for each frame whether devices are
+//! kept out of it. A frame that is free is zero, and devices are kept out of it.
 #![tactic(auto)]
 
 mod area;
@@ -11,11 +11,9 @@ mod lists;
 mod memory;
 mod sizes;
 mod spans;
-#[cfg(test)]
-mod tests;
 
 pub use device::DevEnd;
 pub use dma::Dma;
 pub use laws::{counts_law, frame_law, loan_law, spans_law, taken_frame_law};
 pub use memory::{Memory, NotTaken, TakeFault};
-pub use sizes::{FRAMES, REGION_FRAMES};
+pub use sizes::{FRAME_LEN, FRAMES, REGION_FRAMES};

@@ -5,7 +5,7 @@ ghost use Rattle.machine_memory.specs.Writes.{written};
 
 use region_pool::Pool;
 
-/// Writes a piece over as many bytes from a place on.
+/// Writes a piece over as many bytes from an index on.
 pub(crate) fn write_at(bytes: &mut Vec<u8>, at: usize, piece: &[u8])
     requires { at + length piece.now ≤ vec_len bytes.old }
     ensures { bytes.new.items ≡ written bytes.old.items at piece.now }
@@ -13,7 +13,7 @@ pub(crate) fn write_at(bytes: &mut Vec<u8>, at: usize, piece: &[u8])
     bytes[at..at + piece.len()].copy_from_slice(piece);
 }
 
-/// Makes so many bytes zero, from a place on.
+/// Makes so many bytes zero, from an index on.
 pub(crate) fn wipe_at(bytes: &mut Vec<u8>, at: usize, count: usize)
     requires { at + count ≤ vec_len bytes.old }
     ensures { bytes.new.items ≡ written bytes.old.items at (replicate count 0) }

@@ -1,25 +1,27 @@
 //! Memory: what is taken, given, read and written.
-ghost use Rattle.std.specs.Prelude.{◌≡◌, ◌≢◌, ◌↔◌, ℕ, ◌≤◌, length, replicate, true, IfOk, IfErr, OnOk, OnErr, IsErrOf, MatchResult};
+ghost use Rattle.std.specs.Prelude.{◌≡◌, ◌≢◌, ◌↔◌, ℕ, ◌≤◌, length, replicate, true, IfOk, IfErr};
+ghost use Rattle.std.specs.Prelude.{OnOk, OnErr, IsErrOf, MatchResult};
 ghost use Rattle.region_pool.specs.Places.{IsLowestPlace, HasNoPlace};
 ghost use Rattle.region_pool.specs.Spans.{Span, Holds, IsDisjoint};
 ghost use Rattle.std.specs.Borrow.{sem};
 ghost use Rattle.machine_memory.specs.Writes.{part};
 ghost use Rattle.machine_memory.specs.Contents.{blank, after_power_cycle, first_byte};
-ghost use Rattle.machine_memory.specs.Spans.{LiesInSpan, bytes_of, with_bytes, after_take, after_give};
+ghost use Rattle.machine_memory.specs.Spans.{LiesInSpan, bytes_of, with_bytes, after_take};
+ghost use Rattle.machine_memory.specs.Spans.{after_give};
 ghost use Rattle.machine_memory.specs.LentSpans.{LendsSpan};
 ghost use Rattle.machine_memory.specs.DeviceWrites.{HasShutByte, device_end, after_device_write};
 
 use crate::bytes::Bytes;
 use crate::device::{DevEnd, may_write};
 use crate::lists::{exclude_at, exclude_free, wipe_at, write_at};
-use crate::sizes::frames_of_memory;
+use crate::sizes::{FRAME_LEN, frames_of_memory};
 use crate::spans::lies_in_span;
 use region_pool::{NoMemory, NoRoom, Pool, Purpose, Ticket};
 use std::alloc::{AllocError, Global};
 use std::marker::Model;
 
 /// Why no span was taken.
-#[derive(Clone, Copy, Debug, PartialEq, Eq)]
+#[derive(Clone, Copy)]
 pub enum TakeFault {
     /// No multiple of the alignment begins that many free frames.
     NoRoom,
@@ -28,12 +30,12 @@ pub enum TakeFault {
 }
 
 /// The bytes lie in no one span that is taken.
-#[derive(Clone, Copy, Debug, PartialEq, Eq)]
+#[derive(Clone, Copy)]
 pub struct NotTaken;
 
 /// Memory of `FRAMES` frames. Contracts see its bytes, and the mark and the exclusion bit of each
 /// frame. Every frame that is free is zero and excluded.
-#[derive(Debug, Drop)]
+#[derive(Drop)]
 pub struct Memory {
     pub(crate) bytes: Bytes,
     pub(crate) pool: Pool,
@@ -45,9 +47,14 @@ impl Model for Memory {
 
     ghost Value = { Contents };
 
-    ghost view = { λ m. record { bytes = m.bytes.items.items; marks = m.pool; excluded = m.excluded.items } };
+    ghost view = { λ m. record {
+      bytes = m.bytes.items.items;
+      marks = m.pool;
+      excluded = m.excluded.items;
+    } };
 
-    ghost invariant = { λ m. IsMemory (record { bytes = m.bytes.items.items; marks = m.pool; excluded = m.excluded.items }) };
+    ghost invariant = { λ m. IsMemory
+        (record { bytes = m.bytes.items.items; marks = m.pool; excluded = m.excluded.items }) };
 }
 
 /// So many zeros.
@@ -81,7 +88,7 @@ impl Memory {
     {
         let frames = frames_of_memory();
         let pool = Pool::new(alloc, frames)?;
-        let items = zeros(alloc, 4096 * frames as usize)?;
+        let items = zeros(alloc, FRAME_LEN * frames as usize)?;
         let excluded = all_excluded(alloc, frames as usize)?;
         Ok(Memory {
             bytes: Bytes { items },
@@ -90,13 +97,13 @@ impl Memory {
         })
     }
 
-    /// Takes a span of `frames` frames at the lowest place, the least multiple of `align` that begins
-    /// that many free frames. Its bytes are zero, and devices may write them.
+    /// Takes a span of `frames` frames at the lowest place, the least multiple of `align` that
+    /// begins that many free frames. Its bytes are zero, and devices may write them.
     ///
     /// # Errors
     ///
-    /// `NoRoom` where there is no such place. `NoMemory` never comes, since no memory is made here.
-    /// Memory is then as before.
+    /// `NoRoom` where there is no such place. `NoMemory` never comes, since nothing is allocated
+    /// here. Memory is then as before.
     pub fn take(&mut self, frames: u32, align: u32, purpose: Purpose) -> Result<Ticket, TakeFault>
         requires some { 1 ≤ frames }
         requires aligned { 1 ≤ align }
@@ -105,7 +112,8 @@ impl Memory {
         ensures no_memory { IfErr result (λ fault. fault ≢ TakeFault.NoMemory) }
         ensures unchanged { OnErr result (self.new ≡ self.old) }
 
-        ensures lowest { IfOk result (λ ticket. IsLowestPlace self.old.marks frames align ticket.first) }
+        ensures lowest { IfOk result
+            (λ ticket. IsLowestPlace self.old.marks frames align ticket.first) }
         ensures frames { IfOk result (λ ticket. ticket.frames ≡ frames) }
         ensures purpose { IfOk result (λ ticket. ticket.purpose ≡ purpose) }
         ensures taken { IfOk result (λ ticket. self.new ≡ after_take self.old ticket) }
@@ -132,11 +140,12 @@ impl Memory {
     pub fn give_wiped(&mut self, ticket: Ticket)
         requires { Holds self.old.marks ticket }
         ensures given { self.new ≡ after_give self.old ticket }
-        ensures others_held { (other : Span) → Holds self.old.marks other → other ≢ ticket → Holds self.new.marks other }
+        ensures others_held { (other : Span) → Holds self.old.marks other → other ≢ ticket
+            → Holds self.new.marks other }
     {
         let first = ticket.first() as usize;
         let frames = ticket.frames() as usize;
-        wipe_at(&mut self.bytes.items, 4096 * first, 4096 * frames);
+        wipe_at(&mut self.bytes.items, FRAME_LEN * first, FRAME_LEN * frames);
         exclude_at(&mut self.excluded, first, frames, true);
         self.pool.give(ticket);
     }
@@ -180,8 +189,8 @@ impl Memory {
         Ok(())
     }
 
-    /// Writes bytes for a device, wherever spans begin and end. It is blocked where some byte is past
-    /// memory or in an excluded frame, and then changes nothing. One of no bytes is done.
+    /// Writes bytes for a device, wherever spans begin and end. It is blocked where some byte is
+    /// past memory or in an excluded frame, and then changes nothing. One of no bytes is done.
     pub fn dev_write(&mut self, at: u32, bytes: &[u8]) -> DevEnd
         ensures ended { result ≡ device_end self.old.excluded at (length bytes.now) }
         ensures blocked { (result ≡ DevEnd.Blocked) ↔ HasShutByte self.old at (length bytes.now) }
@@ -202,8 +211,8 @@ impl Memory {
         ensures bytes { result.now ≡ bytes_of self.now span.now }
         ensures size { length result.now ≡ first_byte span.now.frames }
     {
-        let at = 4096 * span.first() as usize;
-        let end = at + 4096 * span.frames() as usize;
+        let at = FRAME_LEN * span.first() as usize;
+        let end = at + FRAME_LEN * span.frames() as usize;
         &self.bytes.items[at..end]
     }
 
@@ -214,8 +223,8 @@ impl Memory {
         ensures bytes { result.now ≡ bytes_of self.old span.now }
         ensures size { length result.now ≡ first_byte span.now.frames }
     {
-        let at = 4096 * span.first() as usize;
-        let count = 4096 * span.frames() as usize;
+        let at = FRAME_LEN * span.first() as usize;
+        let count = FRAME_LEN * span.frames() as usize;
         self.bytes.part(at, count)
     }
 

@@ -1,9 +1,12 @@
-//! How many frames there are.
+//! How large a frame is, and how many frames there are.
 ghost use Rattle.std.specs.Prelude.{◌≡◌, ◌≤◌};
 ghost use Rattle.machine_memory.specs.Contents.{frame_count};
 ghost use Rattle.machine_memory.specs.Areas.{region_frames};
 
-/// How many frames memory has, of 4,096 bytes each.
+/// How many bytes a frame has.
+pub const FRAME_LEN: usize = 4096;
+
+/// How many frames memory has.
 pub const FRAMES: u32 = 1024;
 
 /// How many frames of an area are its region.

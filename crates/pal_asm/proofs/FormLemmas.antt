@@ -1,4 +1,5 @@
--- Whether operands fit a statement does not depend on their numbers, and more than two fit none but .byte.
+-- Whether operands fit a statement does not depend on their numbers, and more than two fit none but
+-- .byte.
 use Rattle.std.proofs.Common.{◌≡◌, ◌≢◌, ◌<◌, List, [], ◌∷◌, length, map, refl, arith}
 use Rattle.std.specs.Prelude.{Option, None, is_some}
 use Rattle.i386_profile.specs.declared.operands.Reg.{Reg}
@@ -12,11 +13,12 @@ use Rattle.pal_asm.specs.declared.names.Mnemonic.TheVariants as m
 use Rattle.pal_asm.specs.declared.operand.Operand.{Operand}
 use Rattle.pal_asm.specs.declared.operand.Operand.TheVariants.{Register, ByteRegister, Number, Label, Memory, Dword, Byte}
 use Rattle.pal_asm.specs.Seen.{operand_as}
-use Rattle.pal_asm.specs.Statements.{Statement, mov_of, movzx_of, lea_of, alu_of, test_of, register_alone, push_of, shift_of, imul_of, unary_of, branch_of, nothing_behind, int_of, long_of, zero_of, statement_of}
+use Rattle.pal_asm.specs.Statements.{Statement, mov_of, movzx_of, lea_of, alu_of, test_of, register_alone, push_of, shift_of, imul_of, unary_of, branch_of, nothing_after, int_of, long_of, zero_of, statement_of}
 
 -- the same form with numbers as the code reads them, and none for more than two operands
 abbrev pub IsFormed : (List Operand → Option Statement) → List Operand → Type 0
-IsFormed form os = (is_some (form (map operand_as os)) ≡ is_some (form os)) × (2 < length os → form os ≡ None)
+IsFormed form os = (is_some (form (map operand_as os)) ≡ is_some (form os)) × (2 < length os
+    → form os ≡ None)
 
 of_mov : (os : List Operand) → IsFormed mov_of os
 of_mov (Register r ∷ Number n ∷ []) = (refl, λ h. absurd (omega arith))
@@ -93,11 +95,12 @@ of_zero : (os : List Operand) → IsFormed zero_of os
 of_zero (Number n ∷ []) = (refl, λ h. absurd (omega arith))
 of_zero _ = (refl, λ _. refl)
 
-of_nothing_behind : (ins : Ins) (os : List Operand) → IsFormed (nothing_behind ins) os
-of_nothing_behind ins [] = (refl, λ h. absurd (omega arith))
-of_nothing_behind ins _ = (refl, λ _. refl)
+of_nothing_after : (ins : Ins) (os : List Operand) → IsFormed (nothing_after ins) os
+of_nothing_after ins [] = (refl, λ h. absurd (omega arith))
+of_nothing_after ins _ = (refl, λ _. refl)
 
-pub of_statement : (mnemonic : Mnemonic) (os : List Operand) → mnemonic ≢ m.Byte → IsFormed (statement_of mnemonic) os
+pub of_statement : (mnemonic : Mnemonic) (os : List Operand) → mnemonic ≢ m.Byte
+    → IsFormed (statement_of mnemonic) os
 of_statement m.Mov os h = of_mov os
 of_statement m.Movzx os h = of_movzx os
 of_statement m.Lea os h = of_lea os
@@ -111,9 +114,9 @@ of_statement (m.Shift op) os h = of_shift op os
 of_statement m.Imul os h = of_imul os
 of_statement (m.Unary op) os h = of_unary op os
 of_statement (m.Branch b) os h = of_branch b os
-of_statement m.Ret os h = of_nothing_behind _ os
+of_statement m.Ret os h = of_nothing_after _ os
 of_statement m.Int os h = of_int os
-of_statement m.Nop os h = of_nothing_behind _ os
+of_statement m.Nop os h = of_nothing_after _ os
 of_statement m.Byte os h = absurd (h refl)
 of_statement m.Long os h = of_long os
 of_statement m.Zero os h = of_zero os

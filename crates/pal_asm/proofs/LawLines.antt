@@ -11,8 +11,8 @@ use Rattle.pal_asm.specs.declared.operand.Operand.{Operand}
 use Rattle.pal_asm.specs.Tokens.{Token, Word, Open, tokens}
 use Rattle.pal_asm.specs.Lines.{is_line_end, lines, content, without_comment}
 use Rattle.pal_asm.specs.Names.{mnemonic_name}
-use Rattle.pal_asm.specs.Statements.{Statement, most_code, size_of}
-use Rattle.pal_asm.specs.Assembling.{Line, Draft, code_start, line_tokens, label_in, word_in, statement_in, line_in}
+use Rattle.pal_asm.specs.Statements.{Statement, size_of}
+use Rattle.pal_asm.specs.Assembling.{most_end, Line, Draft, line_tokens, label_in, word_in, statement_in, line_in}
 use Rattle.pal_asm.proofs.LawTokens.{all_from_test, and_left, and_right}
 use Rattle.pal_asm.proofs.LawWords.{is_plain, mnemonic_known}
 use Rattle.pal_asm.proofs.LawForms.{Makes}
@@ -30,24 +30,32 @@ no_semicolon : (c : ℕ) → is_plain c ≡ true → not (c == 59) ≡ true
 no_semicolon c h = grind (arith, nat_tests)
 
 -- it is a line
-pub first_line : (text more : List ℕ) → list_all is_plain text ≡ true → lines (text ++ codes "\n" ++ more) ≡ text ∷ lines more
+pub first_line : (text more : List ℕ) → list_all is_plain text ≡ true
+    → lines (text ++ codes "\n" ++ more) ≡ text ∷ lines more
 first_line text more h =
-    let ends = All-weaker (λ c. is_plain c ≡ true) (λ c. is_line_end c ≡ false) no_end text (all_from_test is_plain text h) in
-    ap lines (append_assoc text (codes "\n") more) ∙ slice_split_at is_line_end text 10 more ends refl
+    let ends =
+    All-weaker (λ c. is_plain c ≡ true) (λ c. is_line_end c ≡ false) no_end text
+    (all_from_test is_plain text h) in
+    ap lines (append_assoc text (codes "\n") more)
+    ∙ slice_split_at is_line_end text 10 more ends refl
 
-no_return_at : (text : List ℕ) → list_all is_plain text ≡ true → (k : ℕ) → (get_or text k 0 == 13) ≡ false
+no_return_at : (text : List ℕ) → list_all is_plain text ≡ true → (k : ℕ)
+    → (get_or text k 0 == 13) ≡ false
 no_return_at [] h k = refl
 no_return_at (c ∷ cs) h ℕ.zero = no_return c (and_left (is_plain c) (list_all is_plain cs) h)
-no_return_at (c ∷ cs) h (ℕ.suc k) = no_return_at cs (and_right (is_plain c) (list_all is_plain cs) h) k
+no_return_at (c ∷ cs) h (ℕ.suc k) =
+    no_return_at cs (and_right (is_plain c) (list_all is_plain cs) h) k
 
 whole_content : (text : List ℕ) → list_all is_plain text ≡ true → content text ≡ text
 whole_content text h = rw (no_return_at text h (length text - 1)) refl
 
-no_comment : (text : List ℕ) → list_all is_plain text ≡ true → prefix_len (λ c. not (c == 59)) text ≡ length text
+no_comment : (text : List ℕ) → list_all is_plain text ≡ true
+    → prefix_len (λ c. not (c == 59)) text ≡ length text
 no_comment [] h = refl
 no_comment (c ∷ cs) h =
     let here = no_semicolon c (and_left (is_plain c) (list_all is_plain cs) h) in
-    let behind : prefix_len (λ c. not (c == 59)) cs ≡ length cs = no_comment cs (and_right (is_plain c) (list_all is_plain cs) h) in
+    let after : prefix_len (λ c. not (c == 59)) cs ≡ length cs =
+    no_comment cs (and_right (is_plain c) (list_all is_plain cs) h) in
     rw here (omega arith)
 
 whole_line : (text : List ℕ) → list_all is_plain text ≡ true → without_comment text ≡ text
@@ -59,29 +67,42 @@ plain_tokens text h = ap tokens (ap without_comment (whole_content text h) ∙ w
 
 -- ---- a line of a statement
 
-no_label : (w : List ℕ) (ts : List Token) → ends_or_begins ts ≡ true → label_in (Word w ∷ ts) ≡ Ok (None, Word w ∷ ts)
+no_label : (w : List ℕ) (ts : List Token) → ends_or_begins ts ≡ true
+    → label_in (Word w ∷ ts) ≡ Ok (None, Word w ∷ ts)
 no_label w [] h = refl
 no_label w (Word v ∷ ts) h = refl
 no_label w (Open ∷ ts) h = refl
 no_label w (_ ∷ ts) h = cc
 
-word_first : (word : Mnemonic) (ts : List Token) → word_in (Word (mnemonic_name word) ∷ ts) ≡ Ok (Some (word, ts))
+word_first : (word : Mnemonic) (ts : List Token)
+    → word_in (Word (mnemonic_name word) ∷ ts) ≡ Ok (Some (word, ts))
 word_first word ts = rw (mnemonic_known word) refl
 
-statement_read : (at : ℕ) (text bytes : List ℕ) (word : Mnemonic) (os : List Operand) (s : Spoken text word os) (m : Makes at word os bytes)
-    → statement_in (Some (word, s.behind)) ≡ Ok (Some m.statement)
+statement_read : (at : ℕ) (text bytes : List ℕ) (word : Mnemonic) (os : List Operand)
+    (s : Spoken text word os) (m : Makes at word os bytes)
+    → statement_in (Some (word, s.after)) ≡ Ok (Some m.statement)
 statement_read at text bytes word os s m = rw (s.operands, m.made, m.in_range) refl
 
-pub room : (end size : ℕ) → end + size ≤ code_start + most_code → nat_lt (code_start + most_code) (end + size) ≡ false
+pub room : (end size : ℕ) → end + size ≤ most_end
+    → nat_lt (most_end) (end + size) ≡ false
 room end size le = grind (arith, nat_tests)
 
 -- the line of these has no label and this statement
 abbrev pub line_of : Statement → Line
 line_of s = record { label = None; statement = Some s }
 
-pub line_read : (at : ℕ) (text bytes : List ℕ) (word : Mnemonic) (os : List Operand) (s : Spoken text word os) (m : Makes at word os bytes) (before : Draft)
-    → before.end + length bytes ≤ code_start + most_code → line_in before (line_tokens text) ≡ Ok (line_of m.statement)
+pub line_read : (at : ℕ) (text bytes : List ℕ) (word : Mnemonic) (os : List Operand)
+    (s : Spoken text word os) (m : Makes at word os bytes) (before : Draft)
+    → before.end + length bytes ≤ most_end
+    → line_in before (line_tokens text) ≡ Ok (line_of m.statement)
 line_read at text bytes word os s m before le =
-    let whole : line_tokens text ≡ Word (mnemonic_name word) ∷ s.behind = plain_tokens text s.plain ∙ s.is in
+    let whole : line_tokens text ≡ Word (mnemonic_name word) ∷ s.after =
+    plain_tokens text s.plain ∙ s.is in
     let fits = room before.end (size_of m.statement) (omega (arith, m.size, le)) in
-    rw (whole, no_label (mnemonic_name word) s.behind s.begins, word_first word s.behind, statement_read at text bytes word os s m, fits) refl
+    rw (
+      whole,
+      no_label (mnemonic_name word) s.after s.begins,
+      word_first word s.after,
+      statement_read at text bytes word os s m,
+      fits,
+    ) refl

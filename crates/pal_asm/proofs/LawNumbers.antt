@@ -15,13 +15,15 @@ use Rattle.pal_asm.specs.Tokens.{is_word_byte}
 digit_by : (radix d : ℕ) → d < radix → cond (ltb d radix) (Some d) None ≡ Some d
 digit_by radix d lt = grind (arith, nat_tests)
 
-digits_read : (radix value : ℕ) (cs : List ℕ) → AllDigits radix cs → digits_value radix value cs ≡ Some (digits_value_after radix value cs)
+digits_read : (radix value : ℕ) (cs : List ℕ) → AllDigits radix cs
+    → digits_value radix value cs ≡ Some (digits_value_after radix value cs)
 digits_read radix value [] h = refl
 digits_read radix value (c ∷ cs) h =
     let one : digit_in radix c ≡ Some (digit_value c) = digit_by radix (digit_value c) h.0 in
     rw one (digits_read radix (value * radix + digit_value c) cs h.1)
 
-pub numeral_is : (radix n : ℕ) (ds : List ℕ) → IsNumeral radix ds → value_of radix ds ≡ n → numeral radix ds ≡ Some n
+pub numeral_is : (radix n : ℕ) (ds : List ℕ) → IsNumeral radix ds → value_of radix ds ≡ n
+    → numeral radix ds ≡ Some n
 numeral_is radix n [] h e = absurd (omega (arith, h.0))
 numeral_is radix n (c ∷ cs) h e = digits_read radix 0 (c ∷ cs) h.1 ∙ ap Some e
 
@@ -47,7 +49,7 @@ decimal_read n lt =
     let h = decimal_is_IsNumeral n (omega arith) in
     rw (no_hex (decimal n) h.0.1) (numeral_is 10 n (decimal n) h.0 h.1)
 
--- hexadecimal digits behind 0x are read back
+-- hexadecimal digits after 0x are read back
 pub hexadecimal_read : (n : ℕ) → n < 2 ^ 32 → number_of (codes "0x" ++ digits 16 false n) ≡ Some n
 hexadecimal_read n lt =
     let h = digits_is_IsNumeral 16 false (omega arith) (omega arith) n (omega arith) in
@@ -79,10 +81,20 @@ decimal_by : (text : List ℕ) → IsNumeral 10 text → IsDecimal text
 decimal_by [] h = absurd (omega (arith, h.0))
 decimal_by (c ∷ cs) h =
     let range = no_letter c h.1.0 in
-    record { first = c; others = cs; is = refl; low = range.0; high = range.1; words = words_of_digits (c ∷ cs) (fewer (c ∷ cs) h.1) }
+    record {
+      first = c;
+      others = cs;
+      is = refl;
+      low = range.0;
+      high = range.1;
+      words =
+          words_of_digits (c ∷ cs) (fewer (c ∷ cs) h.1);
+    }
 
 pub decimal_text : (n : ℕ) → n < 2 ^ 32 → IsDecimal (decimal n)
 decimal_text n lt = decimal_by (decimal n) (decimal_is_IsNumeral n (omega arith)).0
 
 pub hexadecimal_words : (n : ℕ) → n < 2 ^ 32 → list_all is_word_byte (digits 16 false n) ≡ true
-hexadecimal_words n lt = words_of_digits (digits 16 false n) (digits_is_IsNumeral 16 false (omega arith) (omega arith) n (omega arith)).0.1
+hexadecimal_words n lt =
+    words_of_digits (digits 16 false n) (digits_is_IsNumeral 16 false (omega arith) (omega arith) n
+    (omega arith)).0.1

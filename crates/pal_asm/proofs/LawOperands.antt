@@ -24,7 +24,8 @@ begins_operand (Word w ∷ rest) = true
 begins_operand (Open ∷ rest) = true
 begins_operand _ = false
 
--- The text is read as the operand: its tokens have no comma, and no line ends and no comment begins in it.
+-- The text is read as the operand: its tokens have no comma, and no line ends and no comment begins
+-- in it.
 pub record Reads (text : List ℕ) (o : Operand) : Type 0 where
   pub pieces : List Token
   pub is : tokens text ≡ pieces
@@ -37,7 +38,15 @@ pub record Reads (text : List ℕ) (o : Operand) : Type 0 where
 
 word_reads : (text : List ℕ) (o : Operand) → IsWord text → word_operand text ≡ Some o → Reads text o
 word_reads text o w e =
-    record { pieces = Word text ∷ []; is = tokens_word text w; begins = refl; one = refl; operand = e; plain = plain_word text w.all }
+    record {
+      pieces = Word text ∷ [];
+      is = tokens_word text w;
+      begins = refl;
+      one = refl;
+      operand =
+          e;
+      plain = plain_word text w.all;
+    }
 
 register_operand : (r : Reg) → word_operand (register_name r) ≡ Some (Register r)
 register_operand r = rw (register_known r) refl
@@ -49,9 +58,12 @@ byte_register_operand : (b : ByteReg) → word_operand (byte_register_name b) �
 byte_register_operand b = rw (no_register_of_byte b, byte_register_known b) refl
 
 pub reads_byte_register : (b : ByteReg) → Reads (byte_register_name b) (ByteRegister b)
-reads_byte_register b = word_reads (byte_register_name b) (ByteRegister b) (byte_register_word b) (byte_register_operand b)
+reads_byte_register b =
+    word_reads (byte_register_name b) (ByteRegister b) (byte_register_word b)
+    (byte_register_operand b)
 
-number_operand : (text : List ℕ) (n : ℕ) → register_of text ≡ None → byte_register_of text ≡ None → number_of text ≡ Some n
+number_operand : (text : List ℕ) (n : ℕ) → register_of text ≡ None → byte_register_of text ≡ None
+    → number_of text ≡ Some n
     → word_operand text ≡ Some (Number (pos n))
 number_operand text n e f g = rw (e, f, g) refl
 
@@ -59,20 +71,34 @@ pub reads_number : (n : ℕ) → n < 2 ^ 32 → Reads (decimal n) (Number (pos n
 reads_number n lt =
     let d = decimal_text n lt in
     word_reads (decimal n) (Number (pos n)) (decimal_word n lt)
-    (number_operand (decimal n) n (no_register (decimal n) d) (no_byte_register (decimal n) d) (decimal_read n lt))
+    (number_operand (decimal n) n (no_register (decimal n) d) (no_byte_register (decimal n) d)
+    (decimal_read n lt))
 
 pub reads_offset : (n : ℕ) → n < 2 ^ 32 → Reads (codes "0x" ++ digits 16 false n) (Number (pos n))
 reads_offset n lt =
-    word_reads (codes "0x" ++ digits 16 false n) (Number (pos n)) (record { begins = refl; all = hexadecimal_words n lt })
+    word_reads (codes "0x" ++ digits 16 false n) (Number (pos n)) (record {
+      begins = refl;
+      all =
+          hexadecimal_words n lt;
+    })
     (number_operand (codes "0x" ++ digits 16 false n) n refl refl (hexadecimal_read n lt))
 
 -- ---- places
 
 pub reads_memory : (m : Mem) (r : ReadsPlace m.base m.disp) → Reads (memory_text m) (Memory r.place)
 reads_memory m r =
-    record { pieces = Open ∷ r.inside; is = r.is; begins = refl; one = r.one; operand = ap (option_map Memory) r.found; plain = r.plain }
+    record {
+      pieces = Open ∷ r.inside;
+      is = r.is;
+      begins = refl;
+      one = r.one;
+      operand =
+          ap (option_map Memory) r.found;
+      plain = r.plain;
+    }
 
-pub reads_dword : (m : Mem) (r : ReadsPlace m.base m.disp) → Reads (codes "dword " ++ memory_text m) (Dword r.place)
+pub reads_dword : (m : Mem) (r : ReadsPlace m.base m.disp)
+    → Reads (codes "dword " ++ memory_text m) (Dword r.place)
 reads_dword m r =
     record {
       pieces = Word (codes "dword") ∷ Open ∷ r.inside;
@@ -83,7 +109,8 @@ reads_dword m r =
       plain = r.plain;
     }
 
-pub reads_byte : (m : Mem) (r : ReadsPlace m.base m.disp) → Reads (codes "byte " ++ memory_text m) (Byte r.place)
+pub reads_byte : (m : Mem) (r : ReadsPlace m.base m.disp)
+    → Reads (codes "byte " ++ memory_text m) (Byte r.place)
 reads_byte m r =
     record {
       pieces = Word (codes "byte") ∷ Open ∷ r.inside;

@@ -9,7 +9,7 @@ use Rattle.pal_asm.specs.declared.operand.Place.{Place}
 use Rattle.pal_asm.specs.Tokens.{Token, Word, Dashed, Open, Close, Plus, begins_word, tokens, is_comma}
 use Rattle.pal_asm.specs.Numbers.{number_of, minus, low32}
 use Rattle.pal_asm.specs.Names.{register_name}
-use Rattle.pal_asm.specs.Operands.{absolute, based, alone, moved, place_of, is_displacement, is_place_in_range}
+use Rattle.pal_asm.specs.Operands.{absolute, based, lone_place, place_with, place_of, is_displacement, is_place_in_range}
 use Rattle.pal_asm.specs.Statements.{memory}
 use Rattle.pal_asm.specs.Listing.{displacement_text, place_text}
 use Rattle.pal_asm.proofs.LawNumbers.{IsDecimal, decimal_read, decimal_text}
@@ -18,12 +18,13 @@ use Rattle.pal_asm.proofs.LawWords.{is_plain, plain_word, plain_append, register
 
 -- a number's text is a word
 pub decimal_word : (n : ℕ) → n < 2 ^ 32 → IsWord (decimal n)
-decimal_word n lt = let d = decimal_text n lt in record { begins = rw d.is (begins d.first d.low d.high); all = d.words }
+decimal_word n lt = let d =
+    decimal_text n lt in record { begins = rw d.is (begins d.first d.low d.high); all = d.words }
   where
     begins : (c : ℕ) → 48 ≤ c → c ≤ 57 → begins_word (c ∷ []) ≡ true
     begins c low high = grind (arith, nat_tests)
 
--- what is read between brackets: the tokens behind the opening one, and the place
+-- what is read between brackets: the tokens after the opening one, and the place
 pub record ReadsPlace (base : Option Reg) (disp : ℕ) : Type 0 where
   pub place : Place
   pub same : memory place ≡ record { base = base; disp = disp }
@@ -42,7 +43,8 @@ at_place base disp = record { base = base; disp = disp }
 address_fits : (n : ℕ) → n < 2 ^ 32 → is_displacement None (pos n) ≡ true
 address_fits n lt = grind (arith, nat_tests)
 
-alone_number : (text : List ℕ) (n : ℕ) → IsDecimal text → number_of text ≡ Some n → alone text ≡ Some (absolute n)
+alone_number : (text : List ℕ) (n : ℕ) → IsDecimal text → number_of text ≡ Some n
+    → lone_place text ≡ Some (absolute n)
 alone_number text n d e = rw (no_register text d, e) refl
 
 reads_absolute : (n : ℕ) → n < 2 ^ 32 → ReadsPlace None n
@@ -62,8 +64,8 @@ reads_absolute n lt =
 
 -- ---- with a base
 
--- the text behind the base's name is read as this displacement
-record ReadsBehind (r : Reg) (disp : ℕ) (text : List ℕ) : Type 0 where
+-- the text after the base's name is read as this displacement
+record ReadsAfter (r : Reg) (disp : ℕ) (text : List ℕ) : Type 0 where
   z : ℤ
   low : low32 z ≡ disp
   fits : is_displacement (Some r) z ≡ true
@@ -74,21 +76,33 @@ record ReadsBehind (r : Reg) (disp : ℕ) (text : List ℕ) : Type 0 where
   found : place_of (Word (register_name r) ∷ inside) ≡ Some (based r z)
   plain : list_all is_plain text ≡ true
 
-alone_base : (r : Reg) → alone (register_name r) ≡ Some (based r (pos 0))
+alone_base : (r : Reg) → lone_place (register_name r) ≡ Some (based r (pos 0))
 alone_base r = rw (register_known r) refl
 
-moved_base : (sign : ℕ → ℤ) (r : Reg) (text : List ℕ) (n : ℕ) → number_of text ≡ Some n → moved sign (register_name r) text ≡ Some (based r (sign n))
-moved_base sign r text n e = rw (register_known r, e) refl
+place_with_base : (sign : ℕ → ℤ) (r : Reg) (text : List ℕ) (n : ℕ) → number_of text ≡ Some n
+    → place_with sign (register_name r) text ≡ Some (based r (sign n))
+place_with_base sign r text n e = rw (register_known r, e) refl
 
-nothing_behind : (r : Reg) → ReadsBehind r 0 []
-nothing_behind r =
-    record { z = pos 0; low = refl; fits = refl; begins = refl; inside = Close ∷ []; is = refl; one = refl; found = alone_base r; plain = refl }
+nothing_after : (r : Reg) → ReadsAfter r 0 []
+nothing_after r =
+    record {
+      z = pos 0;
+      low = refl;
+      fits = refl;
+      begins = refl;
+      inside = Close ∷ [];
+      is =
+          refl;
+      one = refl;
+      found = alone_base r;
+      plain = refl;
+    }
 
 above_fits : (r : Reg) (n : ℕ) → n < 2 ^ 31 → is_displacement (Some r) (pos n) ≡ true
 above_fits r n lt = grind (arith, nat_tests)
 
-plus_behind : (r : Reg) (n : ℕ) → n < 2 ^ 31 → ReadsBehind r n (codes "+" ++ decimal n)
-plus_behind r n lt =
+plus_after : (r : Reg) (n : ℕ) → n < 2 ^ 31 → ReadsAfter r n (codes "+" ++ decimal n)
+plus_after r n lt =
     let d = decimal_text n (omega arith) in
     record {
       z = pos n;
@@ -96,9 +110,10 @@ plus_behind r n lt =
       fits = above_fits r n lt;
       begins = refl;
       inside = Plus ∷ Word (decimal n) ∷ Close ∷ [];
-      is = ap (λ ts. Plus ∷ ts) (tokens_word_then (decimal n) (codes "]") (decimal_word n (omega arith)) refl);
+      is = ap (λ ts. Plus ∷ ts) (tokens_word_then (decimal n) (codes "]")
+          (decimal_word n (omega arith)) refl);
       one = refl;
-      found = moved_base pos r (decimal n) n (decimal_read n (omega arith));
+      found = place_with_base pos r (decimal n) n (decimal_read n (omega arith));
       plain = plain_word (decimal n) d.words;
     }
 
@@ -108,16 +123,17 @@ low_minus (suc k) pos_m le = omega arith
 
 below_fits : (r : Reg) (m : ℕ) → 0 < m → m ≤ 2 ^ 31 → is_displacement (Some r) (minus m) ≡ true
 below_fits r zero pos_m le = absurd (omega arith)
-below_fits r (suc k) pos_m le = below k (omega arith)
-  where
-    below : (k : ℕ) → k ≤ 2 ^ 31 - 1 → (leb k (2 ^ 31 - 1) && true) ≡ true
-    below k le = grind (arith, nat_tests)
+below_fits r (suc k) pos_m le = below k (omega arith) where
+  below : (k : ℕ) → k ≤ 2 ^ 31 - 1 → (leb k (2 ^ 31 - 1) && true) ≡ true
+  below k le = grind (arith, nat_tests)
 
-minus_behind : (r : Reg) (m : ℕ) → 0 < m → m ≤ 2 ^ 31 → ReadsBehind r (2 ^ 32 - m) (codes "-" ++ decimal m)
-minus_behind r m lt le =
+minus_after : (r : Reg) (m : ℕ) → 0 < m → m ≤ 2 ^ 31
+    → ReadsAfter r (2 ^ 32 - m) (codes "-" ++ decimal m)
+minus_after r m lt le =
     let d = decimal_text m (omega arith) in
     let word = decimal_word m (omega arith) in
-    let dashed : tokens (45 ∷ decimal m) ≡ Dashed (decimal m) ∷ [] = tokens_dashed (decimal m) word in
+    let dashed : tokens (45 ∷ decimal m) ≡ Dashed (decimal m) ∷ [] =
+    tokens_dashed (decimal m) word in
     record {
       z = minus m;
       low = low_minus m lt le;
@@ -126,25 +142,30 @@ minus_behind r m lt le =
       inside = Dashed (decimal m) ∷ Close ∷ [];
       is = tokens_append (45 ∷ decimal m) (codes "]") refl ∙ ap (λ ts. ts ++ Close ∷ []) dashed;
       one = refl;
-      found = moved_base minus r (decimal m) m (decimal_read m (omega arith));
+      found = place_with_base minus r (decimal m) m (decimal_read m (omega arith));
       plain = plain_word (decimal m) d.words;
     }
 
-behind_by : (r : Reg) (d : ℕ) (zero_d low_d : Bool) → d < 2 ^ 32 → (d == 0) ≡ zero_d → nat_lt d (2 ^ 31) ≡ low_d → ReadsBehind r d (displacement_text d)
-behind_by r d true low_d lt e f =
+after_by : (r : Reg) (d : ℕ) (zero_d low_d : Bool) → d < 2 ^ 32 → (d == 0) ≡ zero_d
+    → nat_lt d (2 ^ 31) ≡ low_d → ReadsAfter r d (displacement_text d)
+after_by r d true low_d lt e f =
     let none : d ≡ 0 = grind (arith, nat_tests) in
-    rw none (nothing_behind r)
-behind_by r d false true lt e f = rw (e, f) (plus_behind r d (grind (arith, nat_tests)))
-behind_by r d false false lt e f =
+    rw none (nothing_after r)
+after_by r d false true lt e f = rw (e, f) (plus_after r d (grind (arith, nat_tests)))
+after_by r d false false lt e f =
     let low : 2 ^ 31 ≤ d = grind (arith, nat_tests) in
     let back : 2 ^ 32 - (2 ^ 32 - d) ≡ d = omega arith in
-    let here : ReadsBehind r (2 ^ 32 - (2 ^ 32 - d)) (codes "-" ++ decimal (2 ^ 32 - d)) = minus_behind r (2 ^ 32 - d) (omega arith) (omega arith) in
+    let here : ReadsAfter r (2 ^ 32 - (2 ^ 32 - d)) (codes "-" ++ decimal (2 ^ 32 - d)) =
+    minus_after r (2 ^ 32 - d) (omega arith) (omega arith) in
     rw (e, f) (rw back at here)
 
-reads_based : (r : Reg) (d : ℕ) (text : List ℕ) → displacement_text d ≡ text → ReadsBehind r d text → ReadsPlace (Some r) d
+reads_based : (r : Reg) (d : ℕ) (text : List ℕ) → displacement_text d ≡ text → ReadsAfter r d text
+    → ReadsPlace (Some r) d
 reads_based r d text e b =
-    let whole : codes "[" ++ place_text (Some r) d ++ codes "]" ≡ 91 ∷ (register_name r ++ (text ++ codes "]")) =
-    ap (λ x. 91 ∷ (register_name r ++ x ++ codes "]")) e ∙ ap (λ xs. 91 ∷ xs) (append_assoc (register_name r) text (codes "]")) in
+    let whole : codes "[" ++ place_text (Some r) d
+    ++ codes "]" ≡ 91 ∷ (register_name r ++ (text ++ codes "]")) =
+    ap (λ x. 91 ∷ (register_name r ++ x ++ codes "]")) e
+    ∙ ap (λ xs. 91 ∷ xs) (append_assoc (register_name r) text (codes "]")) in
     let name = plain_word (register_name r) (register_word r).all in
     let word = tokens_word_then (register_name r) (text ++ codes "]") (register_word r) b.begins in
     record {
@@ -152,12 +173,17 @@ reads_based r d text e b =
       same = ap (at_place (Some r)) b.low;
       in_range = b.fits;
       inside = Word (register_name r) ∷ b.inside;
-      is = ap tokens whole ∙ ap (λ ts. Open ∷ ts) (word ∙ ap (λ ts. Word (register_name r) ∷ ts) b.is);
+      is = ap tokens whole
+          ∙ ap (λ ts. Open ∷ ts) (word ∙ ap (λ ts. Word (register_name r) ∷ ts) b.is);
       one = b.one;
       found = b.found;
-      plain = ap (list_all is_plain) whole ∙ plain_append (register_name r) (text ++ codes "]") name (plain_append text (codes "]") b.plain refl);
+      plain = ap (list_all is_plain) whole
+          ∙ plain_append (register_name r) (text ++ codes "]") name
+          (plain_append text (codes "]") b.plain refl);
     }
 
 pub reads_place : (base : Option Reg) (disp : ℕ) → disp < 2 ^ 32 → ReadsPlace base disp
 reads_place None d lt = reads_absolute d lt
-reads_place (Some r) d lt = reads_based r d (displacement_text d) refl (behind_by r d (d == 0) (nat_lt d (2 ^ 31)) lt refl refl)
+reads_place (Some r) d lt =
+    reads_based r d (displacement_text d) refl
+    (after_by r d (d == 0) (nat_lt d (2 ^ 31)) lt refl refl)

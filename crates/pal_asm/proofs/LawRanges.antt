@@ -16,12 +16,14 @@ extended byte lt = grind (arith, nat_tests)
 signed : (n : ℕ) (i : List ℕ) → IsSignedByte n i → n < 2 ^ 32
 signed n i (byte, lt, value, text) = omega (arith, extended byte lt, value)
 
-displacement : (mode : ℕ) (base : Reg) (disp : ℕ) (d : List ℕ) → IsDisplacement mode base disp d → disp < 2 ^ 32
+displacement : (mode : ℕ) (base : Reg) (disp : ℕ) (d : List ℕ) → IsDisplacement mode base disp d
+    → disp < 2 ^ 32
 displacement mode base disp d (inl (m, other, none, nil)) = omega (arith, none)
 displacement mode base disp d (inr (inl (m, is))) = signed disp d is
 displacement mode base disp d (inr (inr (m, is))) = is.0
 
-memory : (reg : ℕ) (base : Option Reg) (disp : ℕ) (o : List ℕ) → SpellsMemory reg base disp o → disp < 2 ^ 32
+memory : (reg : ℕ) (base : Option Reg) (disp : ℕ) (o : List ℕ) → SpellsMemory reg base disp o
+    → disp < 2 ^ 32
 memory reg None disp o (d, is, e) = is.0
 memory reg (Some base) disp o (mode, d, is, e) = displacement mode base disp d is
 
@@ -29,7 +31,8 @@ operand : (reg : ℕ) (rm : Rm) (o : List ℕ) → SpellsRm reg rm o → IsRmInR
 operand reg (rms.Reg r) o h = tt
 operand reg (rms.Mem m) o h = memory reg m.base m.disp o h
 
-exchanged : (opcode : List ℕ) (rm : Rm) (r : Reg) (a : List ℕ) → HasExchanged opcode rm r a → IsRmInRange rm
+exchanged : (opcode : List ℕ) (rm : Rm) (r : Reg) (a : List ℕ) → HasExchanged opcode rm r a
+    → IsRmInRange rm
 exchanged opcode (rms.Reg s) r a h = tt
 exchanged opcode (rms.Mem m) r a h = absurd h
 

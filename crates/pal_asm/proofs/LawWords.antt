@@ -31,9 +31,11 @@ plain_byte c e = grind (arith, nat_tests)
 pub plain_word : (text : List ℕ) → list_all is_word_byte text ≡ true → list_all is_plain text ≡ true
 plain_word [] h = refl
 plain_word (c ∷ cs) h =
-    rw (plain_byte c (and_left (is_word_byte c) (list_all is_word_byte cs) h)) (plain_word cs (and_right (is_word_byte c) (list_all is_word_byte cs) h))
+    rw (plain_byte c (and_left (is_word_byte c) (list_all is_word_byte cs) h))
+    (plain_word cs (and_right (is_word_byte c) (list_all is_word_byte cs) h))
 
-pub plain_append : (x y : List ℕ) → list_all is_plain x ≡ true → list_all is_plain y ≡ true → list_all is_plain (x ++ y) ≡ true
+pub plain_append : (x y : List ℕ) → list_all is_plain x ≡ true → list_all is_plain y ≡ true
+    → list_all is_plain (x ++ y) ≡ true
 plain_append x y h k = list_all-append is_plain x y ∙ rw (h, k) refl
 
 -- ---- words that the listing writes
@@ -85,15 +87,18 @@ find_none p (x ∷ xs) h = rw (h x) (find_none p xs h)
 no_digit : (letter c : ℕ) → c ≤ 57 → 57 < letter → nat_eq letter c ≡ false
 no_digit letter c le lt = grind (arith, nat_tests)
 
-not_named : (c : ℕ) (cs : List ℕ) → nat_eq 101 c ≡ false → (r : Reg) → bytes_eq (register_name r) (c ∷ cs) ≡ false
+not_named : (c : ℕ) (cs : List ℕ) → nat_eq 101 c ≡ false → (r : Reg)
+    → bytes_eq (register_name r) (c ∷ cs) ≡ false
 not_named c cs h Eax = rw h refl
 not_named c cs h _ = rw h refl
 
 pub no_register : (text : List ℕ) → IsDecimal text → register_of text ≡ None
 no_register text d =
-    ap register_of d.is ∙ find_none (λ r. bytes_eq (register_name r) (d.first ∷ d.others)) registers (not_named d.first d.others (no_digit 101 d.first d.high (omega arith)))
+    ap register_of d.is ∙ find_none (λ r. bytes_eq (register_name r) (d.first ∷ d.others)) registers
+    (not_named d.first d.others (no_digit 101 d.first d.high (omega arith)))
 
-byte_not_named : (c : ℕ) (cs : List ℕ) → c ≤ 57 → (b : ByteReg) → bytes_eq (byte_register_name b) (c ∷ cs) ≡ false
+byte_not_named : (c : ℕ) (cs : List ℕ) → c ≤ 57 → (b : ByteReg)
+    → bytes_eq (byte_register_name b) (c ∷ cs) ≡ false
 byte_not_named c cs le Al = rw (no_digit 97 c le (omega arith)) refl
 byte_not_named c cs le Cl = rw (no_digit 99 c le (omega arith)) refl
 byte_not_named c cs le Dl = rw (no_digit 100 c le (omega arith)) refl
@@ -101,4 +106,6 @@ byte_not_named c cs le Bl = rw (no_digit 98 c le (omega arith)) refl
 
 pub no_byte_register : (text : List ℕ) → IsDecimal text → byte_register_of text ≡ None
 no_byte_register text d =
-    ap byte_register_of d.is ∙ find_none (λ b. bytes_eq (byte_register_name b) (d.first ∷ d.others)) byte_registers (byte_not_named d.first d.others d.high)
+    ap byte_register_of d.is
+    ∙ find_none (λ b. bytes_eq (byte_register_name b) (d.first ∷ d.others)) byte_registers
+    (byte_not_named d.first d.others d.high)

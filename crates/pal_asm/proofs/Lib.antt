@@ -1,5 +1,5 @@
-pub mod TokenLemmas
 pub mod NameLemmas
+pub mod TokenLemmas
 pub mod NumberLemmas
 pub mod OperandLemmas
 pub mod CommaLemmas

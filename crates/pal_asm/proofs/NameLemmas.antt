@@ -1,16 +1,17 @@
 -- A name in its array.
-use Rattle.std.proofs.Common.{◌≡◌, ℕ, Bool, true, false, List, ◌++◌, length, drop, refl}
-use Rattle.std.specs.Prelude.{replicate, Some}
+use Rattle.std.proofs.Common.{◌≡◌, ℕ, List, ◌++◌, length, take, drop, refl}
+use Rattle.std.proofs.Math.Seq.{take-append_seam}
+use Rattle.std.specs.Prelude.{replicate}
 use Rattle.std.proofs.lemmas.List.{drop-replicate}
-use Rattle.pal_asm.specs.declared.names.Name.{Name}
-use Rattle.pal_asm.specs.Names.{is_name, name_of, filled}
+use Rattle.pal_asm.specs.declared.name.Name.TheInside.{Inside}
+use Rattle.pal_asm.specs.NameFields.{fields_of}
 
-abbrev in_array : List ℕ → Name
-in_array bytes = record { bytes = bytes }
+abbrev copied_over : List ℕ → List ℕ → List ℕ
+copied_over word copied = copied ++ drop (length word) (replicate 32 0)
 
-made_by : (word : List ℕ) (b : Bool) → is_name word ≡ b → b ≡ true → Some (filled word) ≡ name_of word
-made_by word true e h = rw e refl
-made_by word false e h = cc
+abbrev held_in : List ℕ → List ℕ → Inside
+held_in word copied = record { bytes = copied_over word copied; length = length word }
 
-pub made : (word bytes : List ℕ) → is_name word ≡ true → bytes ≡ word ++ drop (length word) (replicate 32 0) → Some (in_array bytes) ≡ name_of word
-made word bytes e h = rw (h, drop-replicate) (made_by word (is_name word) refl e)
+pub held : (word copied : List ℕ) → copied ≡ word
+    → fields_of (take (length word) (copied_over word copied)) ≡ held_in word copied
+held word copied e = rw (e, take-append_seam, drop-replicate) refl

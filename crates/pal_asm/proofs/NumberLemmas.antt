@@ -17,19 +17,25 @@ small n h = omega arith
 either : (n : ℕ) → (n ≤ 2 ^ 33) ⊎ (2 ^ 33 ≤ n)
 either n = grind arith
 
-again_by : (radix value d : ℕ) → 2 ≤ radix → (value ≤ 2 ^ 33) ⊎ (2 ^ 33 ≤ value) → read_as (read_as value * radix + d) ≡ read_as (value * radix + d)
+again_by : (radix value d : ℕ) → 2 ≤ radix → (value ≤ 2 ^ 33) ⊎ (2 ^ 33 ≤ value)
+    → read_as (read_as value * radix + d) ≡ read_as (value * radix + d)
 again_by radix value d h (inl l) = ap (λ n. read_as (n * radix + d)) (small value l)
 again_by radix value d h (inr l) =
     let a : 2 ^ 33 ≤ value * radix + d = omega (arith, grown radix value d h) in
-    let b : 2 ^ 33 ≤ read_as value * radix + d = omega (arith, grown radix (read_as value) d h, large value l) in
+    let b : 2 ^ 33 ≤ read_as value * radix + d =
+    omega (arith, grown radix (read_as value) d h, large value l) in
     large _ b ∙ sym (large _ a)
 
 -- what is too large stays so
-pub again : (radix value d : ℕ) → 2 ≤ radix → read_as (read_as value * radix + d) ≡ read_as (value * radix + d)
+pub again : (radix value d : ℕ) → 2 ≤ radix
+    → read_as (read_as value * radix + d) ≡ read_as (value * radix + d)
 again radix value d h = again_by radix value d h (either value)
 
-read_by : (radix a b : ℕ) (cs : List ℕ) (o : Option ℕ) → ((d : ℕ) → option_map read_as (digits_value radix (a * radix + d) cs) ≡ option_map read_as (digits_value radix (b * radix + d) cs))
-    → option_map read_as (option_and_then (λ d. digits_value radix (a * radix + d) cs) o) ≡ option_map read_as (option_and_then (λ d. digits_value radix (b * radix + d) cs) o)
+read_by : (radix a b : ℕ) (cs : List ℕ) (o : Option ℕ)
+    → ((d : ℕ) → option_map read_as (digits_value radix (a * radix + d) cs)
+    ≡ option_map read_as (digits_value radix (b * radix + d) cs))
+    → option_map read_as (option_and_then (λ d. digits_value radix (a * radix + d) cs) o)
+    ≡ option_map read_as (option_and_then (λ d. digits_value radix (b * radix + d) cs) o)
 read_by radix a b cs None h = refl
 read_by radix a b cs (Some d) h = h d
 
@@ -42,13 +48,17 @@ same_read radix a b (c ∷ cs) h e =
     (λ d. same_read radix (a * radix + d) (b * radix + d) cs h
     (sym (again radix a d h) ∙ ap (λ n. read_as (n * radix + d)) e ∙ again radix b d h))
 
-pub step : (radix value i d next : ℕ) (xs : List ℕ) → 2 ≤ radix → i < length xs → Some d ≡ digit_in radix (get_or xs i 0) → next ≡ read_as (value * radix + d)
-    → option_map read_as (digits_value radix next (drop (i + 1) xs)) ≡ option_map read_as (digits_value radix value (drop i xs))
+pub step : (radix value i d next : ℕ) (xs : List ℕ) → 2 ≤ radix → i < length xs
+    → Some d ≡ digit_in radix (get_or xs i 0) → next ≡ read_as (value * radix + d)
+    → option_map read_as (digits_value radix next (drop (i + 1) xs))
+    ≡ option_map read_as (digits_value radix value (drop i xs))
 step radix value i d next xs h l e n =
-    let whole : option_map read_as (digits_value radix value (drop i xs)) ≡ option_map read_as (digits_value radix (value * radix + d) (drop (i + 1) xs)) =
+    let whole : option_map read_as (digits_value radix value (drop i xs))
+    ≡ option_map read_as (digits_value radix (value * radix + d) (drop (i + 1) xs)) =
     rw (drop_more xs i 0 l, ← e) refl in
     let twice : read_as next ≡ read_as (value * radix + d) = omega (arith, n) in
     same_read radix next (value * radix + d) (drop (i + 1) xs) h twice ∙ sym whole
 
-pub at_end : (radix value i : ℕ) (xs : List ℕ) → length xs ≤ i → value ≤ 2 ^ 33 → option_map read_as (digits_value radix value (drop i xs)) ≡ Some value
+pub at_end : (radix value i : ℕ) (xs : List ℕ) → length xs ≤ i → value ≤ 2 ^ 33
+    → option_map read_as (digits_value radix value (drop i xs)) ≡ Some value
 at_end radix value i xs l v = rw (drop_all i xs l) (ap Some (small value v))

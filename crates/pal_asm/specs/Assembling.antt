@@ -6,7 +6,8 @@ use Rattle.flk_base.specs.Checks.{◌>>=◌}
 use Rattle.pal_asm.specs.declared.fault.AsmKind.{AsmKind}
 use Rattle.pal_asm.specs.declared.fault.AsmKind.TheVariants as kind
 use Rattle.pal_asm.specs.declared.fault.AsmFault.{AsmFault}
-use Rattle.pal_asm.specs.declared.names.Name.{Name}
+use Rattle.pal_asm.specs.declared.limits.TheConstants.{CODE_START}
+use Rattle.pal_asm.specs.declared.name.Name.{Name}
 use Rattle.pal_asm.specs.declared.names.Mnemonic.{Mnemonic}
 use Rattle.pal_asm.specs.Lines.{lines, content, without_comment}
 use Rattle.pal_asm.specs.Tokens.{Token, Word, Colon, tokens}
@@ -30,26 +31,29 @@ pub record Line : Type 0 where
   pub label : Option Name
   pub statement : Option Statement
 
--- the label of a line and the tokens behind it: a label is there where a colon stands first or second
+-- the label of a line and the tokens after it: a label is there where a colon stands first or
+-- second
 abbrev pub label_in : List Token → Result (Option Name × List Token) AsmKind
 label_in (Colon ∷ rest) = Err kind.Word
-label_in (Word w ∷ Colon ∷ rest) = or_fault kind.Word (option_map (λ name. (Some name, rest)) (name_of w))
+label_in (Word w ∷ Colon ∷ rest) =
+    or_fault kind.Word (option_map (λ name. (Some name, rest)) (name_of w))
 label_in (_ ∷ Colon ∷ rest) = Err kind.Word
 label_in rest = Ok (None, rest)
 
--- the word of a statement and the tokens behind it
+-- the word of a statement and the tokens after it
 abbrev pub word_in : List Token → Result (Option (Mnemonic × List Token)) AsmKind
 word_in [] = Ok None
 word_in (Word w ∷ rest) = or_fault kind.Word (option_map (λ m. Some (m, rest)) (mnemonic_of w))
 word_in _ = Err kind.Word
 
--- a statement by its word and the tokens behind it: its form, then its ranges
+-- a statement by its word and the tokens after it: its form, then its ranges
 abbrev pub statement_in : Option (Mnemonic × List Token) → Result (Option Statement) AsmKind
 statement_in None = Ok None
 statement_in (Some (m, rest)) =
     or_fault kind.Operand (operands_of rest) >>= λ os.
     or_fault kind.Operand (statement_of m os) >>= λ s.
-    if list_all (is_in_range (least_number m) (most_number m)) os then Ok (Some s) else Err kind.Range
+    if list_all (is_in_range (least_number m) (most_number m)) os then Ok (Some s)
+    else Err kind.Range
 
 -- what is wrong with a line by itself, whatever stands before it
 abbrev pub line_alone : List Token → Result (Option Statement) AsmKind
@@ -58,20 +62,24 @@ line_alone ts = label_in ts >>= λ label. word_in label.1 >>= λ word. statement
 -- ---- lines before a line
 
 -- a statement with the number of its line and its offset
-pub record Placed : Type 0 where
+pub record PlacedStatement : Type 0 where
   pub line : ℕ
   pub at : ℕ
   pub statement : Statement
 
--- what lines gave: the labels with their values, the statements, and the offset behind them
+-- what lines gave: the labels with their values, the statements, and the offset after them
 pub record Draft : Type 0 where
   pub labels : List (Name × ℕ)
-  pub placed : List Placed
+  pub placed : List PlacedStatement
   pub end : ℕ
 
 -- the offset of the first byte of code in the segment
 abbrev pub code_start : ℕ
-code_start = 32
+code_start = CODE_START
+
+-- the farthest offset after the code
+abbrev pub most_end : ℕ
+most_end = code_start + most_code
 
 -- before the first line
 abbrev pub no_lines : Draft
@@ -79,7 +87,7 @@ no_lines = record { labels = []; placed = []; end = code_start }
 
 -- the value of a label
 abbrev pub value_of : List (Name × ℕ) → Name → Option ℕ
-value_of labels name = option_map (λ e. e.1) (find (λ e. bytes_eq e.0.bytes name.bytes) labels)
+value_of labels name = option_map (λ e. e.1) (find (λ e. bytes_eq e.0 name) labels)
 
 -- the label of a line has been defined
 abbrev pub is_defined : List (Name × ℕ) → Option Name → Bool
@@ -94,10 +102,10 @@ line_size (Some s) = size_of s
 -- the line, where the code is not too long with it
 abbrev pub sized_line : Draft → Option Name → Option Statement → Result Line AsmKind
 sized_line before label statement =
-    unless (nat_lt (code_start + most_code) (before.end + line_size statement)) kind.TooLong
+    unless (nat_lt most_end (before.end + line_size statement)) kind.TooLong
     (record { label = label; statement = statement })
 
--- a line behind others, or its first fault: the checks in their order
+-- a line after others, or its first fault: the checks in their order
 abbrev pub line_in : Draft → List Token → Result Line AsmKind
 line_in before ts =
     label_in ts >>= λ label.
@@ -111,9 +119,10 @@ abbrev pub with_label : Option Name → ℕ → List (Name × ℕ) → List (Nam
 with_label None at labels = labels
 with_label (Some name) at labels = labels ++ (name, at) ∷ []
 
-abbrev pub with_statement : Option Statement → ℕ → ℕ → List Placed → List Placed
+abbrev pub with_statement : Option Statement → ℕ → ℕ → List PlacedStatement → List PlacedStatement
 with_statement None line at placed = placed
-with_statement (Some s) line at placed = placed ++ record { line = line; at = at; statement = s } ∷ []
+with_statement (Some s) line at placed =
+    placed ++ record { line = line; at = at; statement = s } ∷ []
 
 -- with one more line, of this number
 abbrev pub with_line : ℕ → Draft → Line → Draft
@@ -134,7 +143,7 @@ at_line n (Err k) = Err (record { line = n; kind = k })
 abbrev pub line_tokens : List ℕ → List Token
 line_tokens line = tokens (without_comment (content line))
 
--- there is nothing on these lines but blanks and comments
+-- there is nothing on these lines but spaces, tabs and comments
 abbrev pub AreBlank : List (List ℕ) → Type 0
 AreBlank [] = Unit {0}
 AreBlank (line ∷ rest) = (line_tokens line ≡ []) × AreBlank rest
@@ -153,7 +162,8 @@ first_tokens (line ∷ rest) = or_others (line_tokens line) (first_tokens rest)
 abbrev pub draft_of : ℕ → Draft → List (List ℕ) → Result Draft AsmFault
 draft_of n before [] = Ok before
 draft_of n before (line ∷ rest) =
-    at_line n (line_in before (line_tokens line)) >>= λ l. draft_of (n + 1) (with_line n before l) rest
+    at_line n (line_in before (line_tokens line)) >>= λ l.
+    draft_of (n + 1) (with_line n before l) rest
 
 -- the value of the label that a statement waits for; any will do where it waits for none
 abbrev pub awaited : List (Name × ℕ) → Option Name → Option ℕ
@@ -165,11 +175,11 @@ abbrev pub bytes_with : List (Name × ℕ) → ℕ → Statement → Option (Lis
 bytes_with labels at s = option_map (λ value. bytes_at at value s) (awaited labels (label_of s))
 
 -- the same of a placed statement, or the fault of its line
-abbrev pub placed_bytes : List (Name × ℕ) → Placed → Result (List ℕ) AsmFault
+abbrev pub placed_bytes : List (Name × ℕ) → PlacedStatement → Result (List ℕ) AsmFault
 placed_bytes labels p = at_line p.line (or_fault kind.Label (bytes_with labels p.at p.statement))
 
 -- The second pass: the bytes of the statements, or the first line whose label is not defined.
-abbrev pub code_with : List (Name × ℕ) → List Placed → Result (List ℕ) AsmFault
+abbrev pub code_with : List (Name × ℕ) → List PlacedStatement → Result (List ℕ) AsmFault
 code_with labels [] = Ok []
 code_with labels (p ∷ ps) =
     placed_bytes labels p >>= λ bytes. code_with labels ps >>= λ rest. Ok (bytes ++ rest)

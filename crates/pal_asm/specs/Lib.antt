@@ -1,6 +1,7 @@
 pub mod Lines
 pub mod Numbers
 pub mod Tokens
+pub mod NameFields
 pub mod Names
 pub mod Operands
 pub mod Statements

@@ -1,5 +1,5 @@
--- The names of registers and statements, each once, and the words that name labels.
-use Rattle.std.specs.Prelude.{ℕ, ◌-◌, ◌&&◌, nat_le, not, Bool, List, [], ◌∷◌, ◌++◌, length, replicate, slice_index, codes, find, Option, Some, None, if◌then◌else◌}
+-- The names of registers and statements, each once, and the words that are names of labels.
+use Rattle.std.specs.Prelude.{ℕ, ◌&&◌, nat_le, not, Bool, List, [], ◌∷◌, length, slice_index, codes, find, Option, Some, None, if◌then◌else◌}
 use Rattle.std.specs.List.{list_all}
 use Rattle.std.specs.Char.{is_ascii_digit}
 use Rattle.std.specs.Str.{bytes_eq}
@@ -12,7 +12,7 @@ use Rattle.i386_profile.specs.declared.ins.ShiftOp.TheVariants.{Shl, Shr, Sar}
 use Rattle.i386_profile.specs.declared.ins.UnaryOp.TheVariants.{Not, Neg, Mul, Div}
 use Rattle.i386_profile.specs.declared.ins.Cond.TheVariants.{O, No, B, Ae, E, Ne, Be, A, S, Ns, L, Ge, Le, G}
 use Rattle.pal_asm.specs.declared.names.Branch.TheVariants.{Jmp, Jcc, Call}
-use Rattle.pal_asm.specs.declared.names.Name.{Name}
+use Rattle.pal_asm.specs.declared.name.TheConstants.{LONGEST_NAME}
 use Rattle.pal_asm.specs.declared.names.Mnemonic.{Mnemonic}
 use Rattle.pal_asm.specs.declared.names.Mnemonic.TheVariants.{Mov, Movzx, Lea, Alu, Test, Inc, Dec, Push, Pop, Shift, Imul, Unary, Branch, Ret, Int, Nop, Byte, Long, Zero}
 use Rattle.pal_asm.specs.Tokens.{is_name_byte}
@@ -91,10 +91,12 @@ byte_registers = Al ∷ Cl ∷ Dl ∷ Bl ∷ []
 
 abbrev pub mnemonics : List Mnemonic
 mnemonics =
-    Mov ∷ Movzx ∷ Lea ∷ Alu Add ∷ Alu Or ∷ Alu And ∷ Alu Sub ∷ Alu Xor ∷ Alu Cmp ∷ Test ∷ Inc ∷ Dec ∷ Push ∷ Pop
-    ∷ Shift Shl ∷ Shift Shr ∷ Shift Sar ∷ Imul ∷ Unary Not ∷ Unary Neg ∷ Unary Mul ∷ Unary Div ∷ Branch Jmp
-    ∷ Branch (Jcc O) ∷ Branch (Jcc No) ∷ Branch (Jcc B) ∷ Branch (Jcc Ae) ∷ Branch (Jcc E) ∷ Branch (Jcc Ne)
-    ∷ Branch (Jcc Be) ∷ Branch (Jcc A) ∷ Branch (Jcc S) ∷ Branch (Jcc Ns) ∷ Branch (Jcc L) ∷ Branch (Jcc Ge)
+    Mov ∷ Movzx ∷ Lea
+    ∷ Alu Add ∷ Alu Or ∷ Alu And ∷ Alu Sub ∷ Alu Xor ∷ Alu Cmp ∷ Test ∷ Inc ∷ Dec ∷ Push ∷ Pop
+    ∷ Shift Shl ∷ Shift Shr ∷ Shift Sar ∷ Imul ∷ Unary Not ∷ Unary Neg ∷ Unary Mul ∷ Unary Div
+    ∷ Branch Jmp ∷ Branch (Jcc O) ∷ Branch (Jcc No) ∷ Branch (Jcc B) ∷ Branch (Jcc Ae)
+    ∷ Branch (Jcc E) ∷ Branch (Jcc Ne) ∷ Branch (Jcc Be) ∷ Branch (Jcc A) ∷ Branch (Jcc S)
+    ∷ Branch (Jcc Ns) ∷ Branch (Jcc L) ∷ Branch (Jcc Ge)
     ∷ Branch (Jcc Le) ∷ Branch (Jcc G) ∷ Branch Call ∷ Ret ∷ Int ∷ Nop ∷ Byte ∷ Long ∷ Zero ∷ []
 
 -- the register that a word names
@@ -128,15 +130,13 @@ mnemonic_of word = or_else (own_name word) (other_name word)
 
 -- a label's name: 1 to 32 letters, digits or `_`, the first no digit
 abbrev pub is_name_length : ℕ → Bool
-is_name_length n = nat_le 1 n && nat_le n 32
+is_name_length n = nat_le 1 n && nat_le n LONGEST_NAME
 
 abbrev pub is_name : List ℕ → Bool
-is_name word = is_name_length (length word) && list_all is_name_byte word && not (is_ascii_digit (slice_index word 0))
-
--- a name with zeros behind it up to 32 bytes; no name has a zero, so two are one exactly where their texts are
-abbrev pub filled : List ℕ → Name
-filled word = record { bytes = word ++ replicate (32 - length word) 0 }
+is_name word =
+    is_name_length (length word) && list_all is_name_byte word
+    && not (is_ascii_digit (slice_index word 0))
 
 -- the name that a word is
-abbrev pub name_of : List ℕ → Option Name
-name_of word = if is_name word then Some (filled word) else None
+abbrev pub name_of : List ℕ → Option (List ℕ)
+name_of word = if is_name word then Some word else None

@@ -7,10 +7,11 @@ use Rattle.std.specs.Char.{digit_value}
 abbrev pub digit_in : ℕ → ℕ → Option ℕ
 digit_in radix c = if nat_lt (digit_value c) radix then Some (digit_value c) else None
 
--- the value of digits that stand behind digits of this value
+-- the value of digits that stand after digits of this value
 abbrev pub digits_value : ℕ → ℕ → List ℕ → Option ℕ
 digits_value radix value [] = Some value
-digits_value radix value (c ∷ cs) = option_and_then (λ d. digits_value radix (value * radix + d) cs) (digit_in radix c)
+digits_value radix value (c ∷ cs) =
+    option_and_then (λ d. digits_value radix (value * radix + d) cs) (digit_in radix c)
 
 -- the value of at least one digit
 abbrev pub numeral : ℕ → List ℕ → Option ℕ
@@ -19,9 +20,10 @@ numeral radix (c ∷ cs) = digits_value radix 0 (c ∷ cs)
 
 -- a number without a sign: decimal digits, or 0x and hexadecimal digits
 abbrev pub number_of : List ℕ → Option ℕ
-number_of word = if starts_with nat_eq word (codes "0x") then numeral 16 (drop 2 word) else numeral 10 word
+number_of word =
+    if starts_with nat_eq word (codes "0x") then numeral 16 (drop 2 word) else numeral 10 word
 
--- a number behind a minus sign
+-- a number after a minus sign
 abbrev pub minus : ℕ → ℤ
 minus zero = pos 0
 minus (suc n) = negsuc n

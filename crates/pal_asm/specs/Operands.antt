@@ -20,33 +20,38 @@ abbrev pub based : Reg → ℤ → Place
 based r z = record { base = Some r; displacement = z }
 
 -- `r` or `N` between brackets
-abbrev pub alone : List ℕ → Option Place
-alone word = or_else (option_map (λ r. based r (pos 0)) (register_of word)) (option_map absolute (number_of word))
+abbrev pub lone_place : List ℕ → Option Place
+lone_place word =
+    or_else (option_map (λ r. based r (pos 0)) (register_of word))
+    (option_map absolute (number_of word))
 
 -- `r+N` or `r-N` between brackets
-abbrev pub moved : (ℕ → ℤ) → List ℕ → List ℕ → Option Place
-moved sign word number = option_and_then (λ r. option_map (λ n. based r (sign n)) (number_of number)) (register_of word)
+abbrev pub place_with : (ℕ → ℤ) → List ℕ → List ℕ → Option Place
+place_with sign word number =
+    option_and_then (λ r. option_map (λ n. based r (sign n)) (number_of number)) (register_of word)
 
 -- what follows an opening bracket: the place, and the closing one
 abbrev pub place_of : List Token → Option Place
-place_of (Word w ∷ Close ∷ []) = alone w
-place_of (Word w ∷ Plus ∷ Word n ∷ Close ∷ []) = moved pos w n
-place_of (Word w ∷ Minus ∷ Word n ∷ Close ∷ []) = moved minus w n
-place_of (Word w ∷ Dashed n ∷ Close ∷ []) = moved minus w n
+place_of (Word w ∷ Close ∷ []) = lone_place w
+place_of (Word w ∷ Plus ∷ Word n ∷ Close ∷ []) = place_with pos w n
+place_of (Word w ∷ Minus ∷ Word n ∷ Close ∷ []) = place_with minus w n
+place_of (Word w ∷ Dashed n ∷ Close ∷ []) = place_with minus w n
 place_of _ = None
 
 -- a word that names no register: a number or a label
 abbrev pub plain_operand : List ℕ → Option Operand
-plain_operand w = or_else (option_map (λ n. Number (pos n)) (number_of w)) (option_map Label (name_of w))
+plain_operand w =
+    or_else (option_map (λ n. Number (pos n)) (number_of w)) (option_map Label (name_of w))
 
 -- a word alone: a register wherever it names one
 abbrev pub word_operand : List ℕ → Option Operand
 word_operand w =
-    or_else (option_map Register (register_of w)) (or_else (option_map ByteRegister (byte_register_of w)) (plain_operand w))
+    or_else (option_map Register (register_of w))
+    (or_else (option_map ByteRegister (byte_register_of w)) (plain_operand w))
 
 -- a place whose size is said
-abbrev pub sized : List ℕ → Option Place → Option Operand
-sized w place =
+abbrev pub sized_operand : List ℕ → Option Place → Option Operand
+sized_operand w place =
     if bytes_eq w (codes "dword") then option_map Dword place
     else if bytes_eq w (codes "byte") then option_map Byte place
     else None
@@ -56,13 +61,14 @@ abbrev pub operand_of : List Token → Option Operand
 operand_of (Word w ∷ []) = word_operand w
 operand_of (Dashed n ∷ []) = option_map (λ n. Number (minus n)) (number_of n)
 operand_of (Open ∷ rest) = option_map Memory (place_of rest)
-operand_of (Word w ∷ Open ∷ rest) = sized w (place_of rest)
+operand_of (Word w ∷ Open ∷ rest) = sized_operand w (place_of rest)
 operand_of _ = None
 
 -- each one's operand, or none where one has none
 abbrev pub all_operands : List (List Token) → Option (List Operand)
 all_operands [] = Some []
-all_operands (piece ∷ pieces) = option_and_then (λ o. option_map (λ os. o ∷ os) (all_operands pieces)) (operand_of piece)
+all_operands (piece ∷ pieces) =
+    option_and_then (λ o. option_map (λ os. o ∷ os) (all_operands pieces)) (operand_of piece)
 
 -- the operands of a statement: none, or those between commas
 abbrev pub operands_of : List Token → Option (List Operand)
@@ -75,7 +81,7 @@ operands_of tokens = all_operands (slice_split is_comma tokens)
 abbrev pub is_within : ℤ → ℤ → ℤ → Bool
 is_within least most z = int_le least z && int_le z most
 
--- an address has 32 bits; what stands behind a base is signed
+-- an address has 32 bits; what stands after a base is signed
 abbrev pub is_displacement : Option Reg → ℤ → Bool
 is_displacement None z = is_within (pos 0) (pos (2 ^ 32 - 1)) z
 is_displacement (Some r) z = is_within (negsuc (2 ^ 31 - 1)) (pos (2 ^ 31 - 1)) z
@@ -83,7 +89,8 @@ is_displacement (Some r) z = is_within (negsuc (2 ^ 31 - 1)) (pos (2 ^ 31 - 1)) 
 abbrev pub is_place_in_range : Place → Bool
 is_place_in_range place = is_displacement place.base place.displacement
 
--- the numbers of an operand lie in their ranges, where the statement takes numbers from least to most
+-- the numbers of an operand lie in their ranges, where the statement takes numbers from least to
+-- most
 abbrev pub is_in_range : ℤ → ℤ → Operand → Bool
 is_in_range least most (Number z) = is_within least most z
 is_in_range least most (Memory place) = is_place_in_range place

@@ -10,7 +10,8 @@ use Rattle.pal_asm.specs.declared.operand.Place.{Place}
 use Rattle.pal_asm.specs.declared.operand.Operand.{Operand}
 use Rattle.pal_asm.specs.declared.operand.Operand.TheVariants.{Register, ByteRegister, Number, Label, Memory, Dword, Byte}
 
--- what the error says of an answer, as of the code or the first fault of a text: want of memory says nothing
+-- what the error says of an answer, as of the code or the first fault of a text: out of memory says
+-- nothing
 abbrev pub Refuses : {A : Type 0} → AsmError → Result A AsmFault → Type 0
 Refuses (At fault) answer = answer ≡ Err fault
 Refuses NoMemory answer = Unit {0}
@@ -20,7 +21,7 @@ abbrev pub RefusesLine : {A : Type 0} → LineFault → Result A AsmKind → Typ
 RefusesLine (line.Kind kind) answer = answer ≡ Err kind
 RefusesLine line.NoMemory answer = Unit {0}
 
--- the same of what a line says by itself: want of memory comes only where that has no fault
+-- the same of what a line says by itself: out of memory comes only where that has no fault
 abbrev pub RefusesAlone : {A : Type 0} → LineFault → Result A AsmKind → Type 0
 RefusesAlone (line.Kind kind) answer = answer ≡ Err kind
 RefusesAlone line.NoMemory answer = IsOk answer

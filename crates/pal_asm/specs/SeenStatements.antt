@@ -28,7 +28,8 @@ AreMore n (Some os) = n < length os
 
 -- a number of .byte: its low byte, where it is in range
 abbrev pub number_byte : ℤ → ByteNumber
-number_byte z = if is_within (least_number m.Byte) (most_number m.Byte) z then Within (low8 z) else Outside
+number_byte z =
+    if is_within (least_number m.Byte) (most_number m.Byte) z then Within (low8 z) else Outside
 
 -- that of an operand, which must be a number
 abbrev pub operand_byte : Operand → Option ByteNumber
@@ -36,21 +37,21 @@ operand_byte (Number z) = Some (number_byte z)
 operand_byte _ = None
 
 -- the statement, with bytes as a list
-abbrev pub seen : Held → Statement
-seen (held.Whole ins) = Whole ins
-seen (held.LoadLabel r name) = LoadLabel r name
-seen (held.PushLabel name) = PushLabel name
-seen (held.Jump b t) = Jump b t
-seen (held.Bytes bytes) = Bytes bytes.bytes
-seen (held.Long n) = Long n
-seen (held.Zeros n) = Zeros n
+abbrev pub statement_view : Held → Statement
+statement_view (held.Whole ins) = Whole ins
+statement_view (held.LoadLabel r name) = LoadLabel r name
+statement_view (held.PushLabel name) = PushLabel name
+statement_view (held.Jump b t) = Jump b t
+statement_view (held.Bytes bytes) = Bytes bytes.bytes
+statement_view (held.Long n) = Long n
+statement_view (held.Zeros n) = Zeros n
 
 -- the operands as a list
-abbrev pub listed : HeldOperands → List Operand
-listed Nothing = []
-listed (One a) = a ∷ []
-listed (Two a b) = a ∷ b ∷ []
+abbrev pub operand_list : HeldOperands → List Operand
+operand_list Nothing = []
+operand_list (One a) = a ∷ []
+operand_list (Two a b) = a ∷ b ∷ []
 
--- a word and the tokens behind it
-abbrev pub word_seen : Option (Mnemonic × Bor (List ℕ)) → Option (Mnemonic × List Token)
-word_seen word = option_map (λ w. (w.0, tokens w.1.now)) word
+-- a word and the tokens after it
+abbrev pub word_view : Option (Mnemonic × Bor (List ℕ)) → Option (Mnemonic × List Token)
+word_view word = option_map (λ w. (w.0, tokens w.1.now)) word

@@ -12,7 +12,7 @@ use Rattle.i386_profile.specs.declared.ins.Ins.TheVariants as i
 use Rattle.i386_profile.specs.Chosen.{chosen}
 use Rattle.pal_asm.specs.declared.names.Branch.{Branch}
 use Rattle.pal_asm.specs.declared.names.Branch.TheVariants as branch
-use Rattle.pal_asm.specs.declared.names.Name.{Name}
+use Rattle.pal_asm.specs.declared.name.Name.{Name}
 use Rattle.pal_asm.specs.declared.names.Mnemonic.{Mnemonic}
 use Rattle.pal_asm.specs.declared.names.Mnemonic.TheVariants as m
 use Rattle.pal_asm.specs.declared.operand.Place.{Place}
@@ -20,6 +20,7 @@ use Rattle.pal_asm.specs.declared.operand.Operand.{Operand}
 use Rattle.pal_asm.specs.declared.operand.Operand.TheVariants.{Register, ByteRegister, Number, Label, Memory, Dword, Byte}
 use Rattle.pal_asm.specs.declared.operand.Target.{Target}
 use Rattle.pal_asm.specs.declared.operand.Target.TheVariants as target
+use Rattle.pal_asm.specs.declared.limits.TheConstants.{MOST_CODE}
 use Rattle.pal_asm.specs.Numbers.{low32, low8}
 
 -- a statement: an instruction, one that waits for a label's value, or bytes
@@ -104,9 +105,9 @@ branch_of b (Number n ∷ []) = Some (Jump b (target.Offset (low32 n)))
 branch_of b _ = None
 
 -- ret and nop take nothing
-abbrev pub nothing_behind : Ins → List Operand → Option Statement
-nothing_behind ins [] = Some (Whole ins)
-nothing_behind ins _ = None
+abbrev pub nothing_after : Ins → List Operand → Option Statement
+nothing_after ins [] = Some (Whole ins)
+nothing_after ins _ = None
 
 abbrev pub int_of : List Operand → Option Statement
 int_of (Number n ∷ []) = Some (Whole (i.Gate (low8 n)))
@@ -146,9 +147,9 @@ statement_of (m.Shift op) os = shift_of op os
 statement_of m.Imul os = imul_of os
 statement_of (m.Unary op) os = unary_of op os
 statement_of (m.Branch b) os = branch_of b os
-statement_of m.Ret os = nothing_behind i.Ret os
+statement_of m.Ret os = nothing_after i.Ret os
 statement_of m.Int os = int_of os
-statement_of m.Nop os = nothing_behind i.Nop os
+statement_of m.Nop os = nothing_after i.Nop os
 statement_of m.Byte os = byte_of os
 statement_of m.Long os = long_of os
 statement_of m.Zero os = zero_of os
@@ -157,7 +158,7 @@ statement_of m.Zero os = zero_of os
 
 -- the most bytes of code
 abbrev pub most_code : ℕ
-most_code = 49120
+most_code = MOST_CODE
 
 -- the least and the most number that may stand with a word, outside brackets
 abbrev pub least_number : Mnemonic → ℤ
@@ -179,7 +180,7 @@ most_number _ = pos (2 ^ 32 - 1)
 
 -- an offset as a distance from another, modulo 2 ^ 32
 abbrev pub distance : ℕ → ℕ → ℕ
-distance target behind = (target % 2 ^ 32 + (2 ^ 32 - behind % 2 ^ 32)) % 2 ^ 32
+distance target after = (target % 2 ^ 32 + (2 ^ 32 - after % 2 ^ 32)) % 2 ^ 32
 
 -- a jump or a call by a distance
 abbrev pub branch_by : Branch → ℕ → Ins
@@ -187,9 +188,11 @@ branch_by branch.Jmp rel = i.Jmp rel
 branch_by (branch.Jcc c) rel = i.Jcc c rel
 branch_by branch.Call rel = i.Call rel
 
--- a jump or a call at an offset: the distance counts from the offset behind it, where the next instruction stands
+-- a jump or a call at an offset: the distance counts from the offset after it, where the next
+-- instruction stands
 abbrev pub branch_at : Branch → ℕ → ℕ → List ℕ
-branch_at b target at = chosen (branch_by b (distance target (at + length (chosen (branch_by b 0)))))
+branch_at b target at =
+    chosen (branch_by b (distance target (at + length (chosen (branch_by b 0)))))
 
 -- the offset of a target, where a label has this value
 abbrev pub target_offset : ℕ → Target → ℕ

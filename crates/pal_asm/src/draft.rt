@@ -1,38 +1,35 @@
 //! What the lines so far gave.
 
 ghost use Rattle.std.specs.Prelude.{◌≤◌, ◌+◌};
-ghost use Rattle.pal_asm.specs.Statements.{most_code};
-ghost use Rattle.pal_asm.specs.Assembling.{code_start};
+ghost use Rattle.pal_asm.specs.Assembling.{most_end};
 
 use crate::fault::{AsmError, AsmKind, LineFault};
 use crate::labels::{define, is_defined};
-use crate::names::Name;
-use crate::placed::{Placed, line_size, place, put_placed};
-use crate::statement::{MOST_CODE, Statement};
+use crate::limits::{CODE_START, MOST_CODE};
+use crate::name::Name;
+use crate::placed::{PlacedStatement, add_statement, line_size, put_placed};
+use crate::statement::Statement;
 use flk_base::Bytes;
 use std::alloc::Global;
 use std::collections::BTreeMap;
 
-/// The offset of the first byte of code in the segment.
-const CODE_START: u32 = 32;
-
-/// The most that the offset behind the code can be.
+/// The most that the offset after the code can be.
 const MOST_END: u32 = CODE_START + MOST_CODE as u32;
 
-/// Labels with their values, statements with their offsets, and the offset behind them.
+/// Labels with their values, statements with their offsets, and the offset after them.
 #[derive(Drop)]
 pub(crate) struct Draft {
     labels: BTreeMap<Name, u32>,
-    placed: Vec<Placed>,
+    placed: Vec<PlacedStatement>,
     end: u32,
-    ghost reached: { end ≤ code_start + most_code },
+    ghost reached: { end ≤ most_end },
 }
 
 impl Draft {
     ghost use Rattle.std.specs.Prelude.{◌≡◌, [], false, option_map, MatchResult, Ok, IsOk};
     ghost use Rattle.pal_asm.specs.Assembling.{Draft as Lines, no_lines, is_defined, sized_line, code_with};
     ghost use Rattle.pal_asm.specs.Seen.{Refuses};
-    ghost use Rattle.pal_asm.specs.SeenStatements.{seen};
+    ghost use Rattle.pal_asm.specs.SeenStatements.{statement_view};
     ghost use Rattle.pal_asm.specs.SeenDraft.{Stands, Adds};
 
     /// Before the first line.
@@ -47,8 +44,9 @@ impl Draft {
     }
 
     /// Whether the label of a line has been defined.
-    pub(crate) fn defines(&self, label: Option<Name>) -> bool
-        ensures { (lines : Lines) → Stands self.now lines → result ≡ is_defined lines.labels label }
+    pub(crate) fn defines(&self, label: &Option<Name>) -> bool
+        ensures { (lines : Lines) → Stands self.now lines
+            → result ≡ is_defined lines.labels label.now }
     {
         is_defined(&self.labels, label)
     }
@@ -61,7 +59,8 @@ impl Draft {
         statement: Option<Statement>,
     ) -> Result<(), LineFault>
         ensures { (lines : Lines) → Stands self.old lines → is_defined lines.labels label ≡ false
-            → Adds line lines self.new (sized_line lines label (option_map seen statement)) result }
+            → Adds line lines self.new (sized_line lines label
+            (option_map statement_view statement)) result }
     {
         let size = line_size(&statement);
         if size > (MOST_END - self.end) as usize {
@@ -70,7 +69,7 @@ impl Draft {
         let Ok(()) = define(&mut self.labels, label, self.end) else {
             return Err(LineFault::NoMemory);
         };
-        let Ok(()) = place(&mut self.placed, line, self.end, statement) else {
+        let Ok(()) = add_statement(&mut self.placed, line, self.end, statement) else {
             return Err(LineFault::NoMemory);
         };
         self.end += size as u32;

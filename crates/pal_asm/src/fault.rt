@@ -1,7 +1,7 @@
 //! What can be wrong with an assembler text.
 
-/// The kinds of faults. Within a line they are looked for in the order Word, Twice, Operand, Range, TooLong; Label comes only
-/// where no line has any of these.
+/// The kinds of faults. Within a line they are looked for in the order Word, Twice, Operand, Range,
+/// TooLong; Label comes only where no line has any of these.
 #[derive(Clone, Copy, Debug, PartialEq, Eq)]
 pub enum AsmKind {
     /// The name before a colon is none, or the word that begins the statement is not known.
@@ -26,11 +26,11 @@ pub struct AsmFault {
 }
 
 /// Why there is no code.
-#[derive(Clone, Copy, Debug, PartialEq, Eq)]
+#[derive(Clone, Copy)]
 pub enum AsmError {
     /// The text has this fault.
     At(AsmFault),
-    /// Memory was wanting.
+    /// Memory ran out.
     NoMemory,
 }
 
@@ -39,6 +39,6 @@ pub enum AsmError {
 pub(crate) enum LineFault {
     /// The line has this fault.
     Kind(AsmKind),
-    /// Memory was wanting.
+    /// Memory ran out.
     NoMemory,
 }

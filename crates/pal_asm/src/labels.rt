@@ -2,11 +2,11 @@
 
 ghost use Rattle.std.specs.Prelude.{◌≡◌, ℕ, List, false, OnOk};
 ghost use Rattle.std.specs.BTreeMap.{get};
-ghost use Rattle.pal_asm.specs.declared.names.Name.{Name as NameView};
+ghost use Rattle.pal_asm.specs.declared.name.Name.{Name as NameView};
 ghost use Rattle.pal_asm.specs.Assembling.{is_defined, awaited, with_label};
 ghost use Rattle.pal_asm.specs.SeenDraft.{name_cmp, HasLabels};
 
-use crate::names::Name;
+use crate::name::Name;
 use flk_base::NoMemory;
 use std::collections::BTreeMap;
 
@@ -18,11 +18,12 @@ fn value_of(labels: &BTreeMap<Name, u32>, name: &Name) -> Option<u32>
 }
 
 /// Whether the label of a line has been defined.
-pub(crate) fn is_defined(labels: &BTreeMap<Name, u32>, label: Option<Name>) -> bool
-    ensures { (ls : List (NameView × ℕ)) → HasLabels labels.now ls → result ≡ is_defined ls label }
+pub(crate) fn is_defined(labels: &BTreeMap<Name, u32>, label: &Option<Name>) -> bool
+    ensures { (ls : List (NameView × ℕ)) → HasLabels labels.now ls
+        → result ≡ is_defined ls label.now }
 {
     match label {
-        Some(name) => value_of(labels, &name).is_some(),
+        Some(name) => value_of(labels, name).is_some(),
         None => false,
     }
 }
@@ -43,7 +44,8 @@ pub(crate) fn define(
     label: Option<Name>,
     at: u32,
 ) -> Result<(), NoMemory>
-    ensures { OnOk result ((ls : List (NameView × ℕ)) → HasLabels labels.old ls → is_defined ls label ≡ false → HasLabels labels.new (with_label label at ls)) }
+    ensures { OnOk result ((ls : List (NameView × ℕ)) → HasLabels labels.old ls
+        → is_defined ls label ≡ false → HasLabels labels.new (with_label label at ls)) }
 {
     let Some(name) = label else {
         return Ok(());

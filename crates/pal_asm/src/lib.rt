@@ -1,5 +1,6 @@
-//! The assembler of the i386 profile and its listing: text to code in chosen spellings, and code to text, which assembles
-//! to the code again where that is in chosen spellings. docs/ASSEMBLER.md has the language.
+//! The assembler of the i386 profile and its listing: text to code in chosen spellings, and code to
+//! text, which assembles to the code again where that is in chosen spellings. docs/ASSEMBLER.md has
+//! the language.
 #![tactic(auto)]
 
 mod assembling;
@@ -8,8 +9,11 @@ mod draft;
 mod fault;
 mod labels;
 mod laws;
+mod limits;
 mod lines;
 mod listing;
+mod marks;
+mod name;
 mod names;
 mod numbers;
 mod operand;
@@ -24,7 +28,5 @@ pub use fault::{AsmError, AsmFault, AsmKind};
 pub use laws::{
     each_is_listed, listing_assembles, listing_is_short, offsets_are_lengths, one_listing,
 };
+pub use limits::MOST_CODE;
 pub use listing::disassemble;
-
-#[cfg(test)]
-mod tests;

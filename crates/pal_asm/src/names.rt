@@ -1,16 +1,12 @@
-//! The names of registers and statements, each once, and the names of labels.
+//! The names of registers and statements, each once.
 
-ghost use Rattle.std.specs.Prelude.{◌≡◌, slice_index};
-ghost use Rattle.std.specs.List.{list_all};
-ghost use Rattle.std.specs.Char.{is_ascii_digit};
-ghost use Rattle.pal_asm.specs.Tokens.{is_name_byte};
-ghost use Rattle.pal_asm.specs.Names.{register_name, byte_register_name, mnemonic_name, register_of, byte_register_of, other_name, own_name, mnemonic_of, is_name_length, is_name, name_of};
+ghost use Rattle.std.specs.Prelude.{◌≡◌};
+ghost use Rattle.pal_asm.specs.Names.{register_name, byte_register_name, mnemonic_name, register_of, byte_register_of, other_name, own_name, mnemonic_of};
 
-use crate::tokens::is_name_byte;
 use i386_profile::{AluOp, ByteReg, Cond, Reg, ShiftOp, UnaryOp};
 
 /// A jump or a call.
-#[derive(Clone, Copy, Debug, PartialEq, Eq)]
+#[derive(Clone, Copy)]
 pub(crate) enum Branch {
     Jmp,
     Jcc(Cond),
@@ -18,7 +14,7 @@ pub(crate) enum Branch {
 }
 
 /// What the word that begins a statement stands for.
-#[derive(Clone, Copy, Debug, PartialEq, Eq)]
+#[derive(Clone, Copy)]
 pub(crate) enum Mnemonic {
     Mov,
     Movzx,
@@ -273,52 +269,5 @@ pub(crate) fn mnemonic_of(word: &[u8]) -> Option<Mnemonic>
     match own_name(word) {
         Some(mnemonic) => Some(mnemonic),
         None => other_name(word),
-    }
-}
-
-/// The most bytes of a label's name.
-const LONGEST_NAME: usize = 32;
-
-/// A label's name, with zeros behind it: two names are one where these bytes are.
-#[derive(Clone, Copy, Debug, PartialEq, Eq, PartialOrd, Ord)]
-pub(crate) struct Name {
-    bytes: [u8; LONGEST_NAME],
-}
-
-fn is_name_length(n: usize) -> bool
-    ensures { result ≡ is_name_length n }
-{
-    1 <= n && n <= LONGEST_NAME
-}
-
-fn are_name_bytes(word: &[u8]) -> bool
-    ensures { result ≡ list_all is_name_byte word.now }
-{
-    word.iter().all(|c| is_name_byte(*c))
-}
-
-fn begins_with_digit(word: &[u8]) -> bool
-    ensures { result ≡ is_ascii_digit (slice_index word.now 0) }
-{
-    !word.is_empty() && word[0].is_ascii_digit()
-}
-
-fn is_name(word: &[u8]) -> bool
-    ensures { result ≡ is_name word.now }
-{
-    is_name_length(word.len()) && are_name_bytes(word) && !begins_with_digit(word)
-}
-
-impl Name {
-    /// The name that a word is.
-    pub(crate) fn of(word: &[u8]) -> Option<Name>
-        ensures { result ≡ name_of word.now }
-    {
-        if !is_name(word) {
-            return None;
-        }
-        let mut bytes = [0; LONGEST_NAME];
-        bytes[..word.len()].copy_from_slice(word);
-        Some(Name { bytes })
     }
 }

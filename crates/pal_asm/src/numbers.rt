@@ -73,7 +73,7 @@ pub(crate) fn number_of(word: &[u8]) -> Option<i64>
     }
 }
 
-/// The number that a word behind a minus sign spells, or -2^33 where it is smaller.
+/// The number that a word after a minus sign spells, or -2^33 where it is smaller.
 pub(crate) fn minus_of(word: &[u8]) -> Option<i64>
     ensures { result ≡ option_map (λ n. signed_as (minus n)) (number_of word.now) }
 {

@@ -4,25 +4,27 @@ ghost use Rattle.std.specs.Prelude.{◌≡◌, ◌≢◌, [], ◌∷◌, Option,
 ghost use Rattle.pal_asm.specs.Tokens.{Word, Close, tokens};
 ghost use Rattle.pal_asm.specs.Numbers.{minus, number_of};
 ghost use Rattle.pal_asm.specs.Names.{name_of};
-ghost use Rattle.pal_asm.specs.Operands.{alone, moved, place_of, plain_operand, word_operand, sized, operand_of, is_within, is_displacement, is_place_in_range, is_in_range};
+ghost use Rattle.pal_asm.specs.Operands.{lone_place, place_with, place_of, plain_operand, word_operand, sized_operand, operand_of, is_within, is_displacement, is_place_in_range, is_in_range};
 ghost use Rattle.pal_asm.specs.Seen.{place_as, operand_as};
 ghost use Rattle.pal_asm.specs.SeenTokens.{NoWordFirst, NoClosedWord};
 ghost use Rattle.pal_asm.specs.declared.operand.Place.{Place as PlaceView};
 
-use crate::names::{Name, byte_register_of, register_of};
+use crate::name::Name;
+use crate::names::{byte_register_of, register_of};
 use crate::numbers::{minus_of, number_of};
 use crate::tokens::{Token, first_token, is_blank_text};
 use i386_profile::{ByteReg, Reg};
 
-/// A place in memory, before its displacement is looked at. Displacements are at most 2^33 either way.
-#[derive(Clone, Copy, Debug, PartialEq, Eq)]
+/// A place in memory, before its displacement is looked at. Displacements are at most 2^33 either
+/// way.
+#[derive(Clone, Copy)]
 pub(crate) struct Place {
     pub(crate) base: Option<Reg>,
     pub(crate) displacement: i64,
 }
 
 /// An operand, before its number is looked at. Numbers are at most 2^33 either way.
-#[derive(Clone, Copy, Debug, PartialEq, Eq)]
+#[derive(Clone, Copy)]
 pub(crate) enum Operand {
     Register(Reg),
     ByteRegister(ByteReg),
@@ -37,15 +39,15 @@ pub(crate) enum Operand {
 }
 
 /// Where a jump or a call goes.
-#[derive(Clone, Copy, Debug, PartialEq, Eq)]
+#[derive(Clone, Copy)]
 pub(crate) enum Target {
     Label(Name),
     Offset(u32),
 }
 
 /// `r` or `N` between brackets.
-fn alone(word: &[u8]) -> Option<Place>
-    ensures { result ≡ option_map place_as (alone word.now) }
+fn lone_place(word: &[u8]) -> Option<Place>
+    ensures { result ≡ option_map place_as (lone_place word.now) }
 {
     match register_of(word) {
         Some(r) => Some(Place {
@@ -60,8 +62,8 @@ fn alone(word: &[u8]) -> Option<Place>
 }
 
 /// `r+N` between brackets.
-fn ahead(word: &[u8], number: &[u8]) -> Option<Place>
-    ensures { result ≡ option_map place_as (moved pos word.now number.now) }
+fn base_plus(word: &[u8], number: &[u8]) -> Option<Place>
+    ensures { result ≡ option_map place_as (place_with pos word.now number.now) }
 {
     Some(Place {
         base: Some(register_of(word)?),
@@ -70,8 +72,8 @@ fn ahead(word: &[u8], number: &[u8]) -> Option<Place>
 }
 
 /// `r-N` between brackets.
-fn behind(word: &[u8], number: &[u8]) -> Option<Place>
-    ensures { result ≡ option_map place_as (moved minus word.now number.now) }
+fn base_minus(word: &[u8], number: &[u8]) -> Option<Place>
+    ensures { result ≡ option_map place_as (place_with minus word.now number.now) }
 {
     Some(Place {
         base: Some(register_of(word)?),
@@ -79,7 +81,7 @@ fn behind(word: &[u8], number: &[u8]) -> Option<Place>
     })
 }
 
-/// The closing bracket, with nothing behind it.
+/// The closing bracket, with nothing after it.
 fn closes(text: &[u8]) -> bool
     ensures { MatchBool result (tokens text.now ≡ Close ∷ []) (tokens text.now ≢ Close ∷ []) }
 {
@@ -89,9 +91,10 @@ fn closes(text: &[u8]) -> bool
     }
 }
 
-/// A word that stands first, and what stands behind it.
+/// A word that stands first, and what stands after it.
 fn first_word(text: &[u8]) -> Option<(&[u8], &[u8])>
-    ensures { MatchOption result (NoWordFirst (tokens text.now)) (λ r. tokens text.now ≡ Word r.0.now ∷ tokens r.1.now) }
+    ensures { MatchOption result (NoWordFirst (tokens text.now))
+        (λ r. tokens text.now ≡ Word r.0.now ∷ tokens r.1.now) }
 {
     match first_token(text) {
         Some((Token::Word(word), rest)) => Some((word, rest)),
@@ -101,21 +104,22 @@ fn first_word(text: &[u8]) -> Option<(&[u8], &[u8])>
 
 /// A word and a closing bracket.
 fn closed_word(text: &[u8]) -> Option<&[u8]>
-    ensures { MatchOption result (NoClosedWord (tokens text.now)) (λ word. tokens text.now ≡ Word word.now ∷ Close ∷ []) }
+    ensures { MatchOption result (NoClosedWord (tokens text.now))
+        (λ word. tokens text.now ≡ Word word.now ∷ Close ∷ []) }
 {
     let (word, rest) = first_word(text)?;
     if closes(rest) { Some(word) } else { None }
 }
 
-/// What follows a word behind an opening bracket: the place, and the closing bracket.
+/// What follows a word after an opening bracket: the place, and the closing bracket.
 fn place_from<'a>(word: &'a [u8], text: &'a [u8]) -> Option<Place>
     ensures { result ≡ option_map place_as (place_of (Word word.now ∷ tokens text.now)) }
 {
     match first_token(text)? {
-        (Token::Close, rest) if is_blank_text(rest) => alone(word),
-        (Token::Plus, rest) => ahead(word, closed_word(rest)?),
-        (Token::Minus, rest) => behind(word, closed_word(rest)?),
-        (Token::Dashed(number), rest) if closes(rest) => behind(word, number),
+        (Token::Close, rest) if is_blank_text(rest) => lone_place(word),
+        (Token::Plus, rest) => base_plus(word, closed_word(rest)?),
+        (Token::Minus, rest) => base_minus(word, closed_word(rest)?),
+        (Token::Dashed(number), rest) if closes(rest) => base_minus(word, number),
         _ => None,
     }
 }
@@ -129,7 +133,8 @@ fn place_of(text: &[u8]) -> Option<Place>
 }
 
 fn number_operand(word: &[u8]) -> Option<Operand>
-    ensures { result ≡ option_map operand_as (option_map (λ n. Operand.Number (pos n)) (number_of word.now)) }
+    ensures { result ≡ option_map operand_as (option_map (λ n. Operand.Number (pos n))
+        (number_of word.now)) }
 {
     Some(Operand::Number(number_of(word)?))
 }
@@ -164,8 +169,9 @@ fn word_operand(word: &[u8]) -> Option<Operand>
 }
 
 /// A place whose size is said.
-fn sized(word: &[u8], place: Option<Place>) -> Option<Operand>
-    ensures { (p : Option PlaceView) → place ≡ option_map place_as p → result ≡ option_map operand_as (sized word.now p) }
+fn sized_operand(word: &[u8], place: Option<Place>) -> Option<Operand>
+    ensures { (p : Option PlaceView) → place ≡ option_map place_as p
+        → result ≡ option_map operand_as (sized_operand word.now p) }
 {
     let place = place?;
     if word == b"dword".as_slice() {
@@ -177,20 +183,21 @@ fn sized(word: &[u8], place: Option<Place>) -> Option<Operand>
     }
 }
 
-/// A word, and behind it the place that it says the size of, where there is one.
+/// A word, and after it the place that it says the size of, where there is one.
 fn word_first<'a>(word: &'a [u8], text: &'a [u8]) -> Option<Operand>
     ensures { result ≡ option_map operand_as (operand_of (Word word.now ∷ tokens text.now)) }
 {
     match first_token(text) {
         None => word_operand(word),
-        Some((Token::Open, rest)) => sized(word, place_of(rest)),
+        Some((Token::Open, rest)) => sized_operand(word, place_of(rest)),
         Some(_) => None,
     }
 }
 
 /// What follows an opening bracket, as an operand.
 fn bracketed(text: &[u8]) -> Option<Operand>
-    ensures { result ≡ option_map operand_as (option_map Operand.Memory (place_of (tokens text.now))) }
+    ensures { result ≡ option_map operand_as (option_map Operand.Memory
+        (place_of (tokens text.now))) }
 {
     Some(Operand::Memory(place_of(text)?))
 }
@@ -216,7 +223,7 @@ pub(crate) fn is_within(least: i64, most: i64, n: i64) -> bool
     least <= n && n <= most
 }
 
-/// An address has 32 bits; what stands behind a base is signed.
+/// An address has 32 bits; what stands after a base is signed.
 fn is_place_in_range(place: Place) -> bool
     ensures { result ≡ is_place_in_range place }
 {
@@ -226,7 +233,8 @@ fn is_place_in_range(place: Place) -> bool
     }
 }
 
-/// The numbers of an operand lie in their ranges, where the statement takes numbers from least to most.
+/// The numbers of an operand lie in their ranges, where the statement takes numbers from least to
+/// most.
 pub(crate) fn is_in_range(least: i64, most: i64, operand: Operand) -> bool
     ensures { result ≡ is_in_range least most operand }
 {

@@ -3,9 +3,10 @@
 ghost use Rattle.std.specs.Prelude.{◌≡◌, ◌≤◌, ◌++◌, length, replicate, OnOk};
 ghost use Rattle.i386_profile.specs.Chosen.{chosen};
 ghost use Rattle.pal_asm.specs.Statements.{branch_by, branch_at, distance, target_offset, target_label, bytes_at, size_of, label_of};
-ghost use Rattle.pal_asm.specs.SeenStatements.{seen};
+ghost use Rattle.pal_asm.specs.SeenStatements.{statement_view};
 
-use crate::names::{Branch, Name};
+use crate::name::Name;
+use crate::names::Branch;
 use crate::operand::Target;
 use crate::statement::Statement;
 use flk_base::{Bytes, NoMemory};
@@ -22,10 +23,10 @@ fn branch_by(branch: Branch, rel: u32) -> Ins
 }
 
 /// An offset as a distance from another, modulo 2^32.
-fn distance(target: u32, behind: u32) -> u32
-    ensures { result ≡ distance target behind }
+fn distance(target: u32, after: u32) -> u32
+    ensures { result ≡ distance target after }
 {
-    target.wrapping_sub(behind)
+    target.wrapping_sub(after)
 }
 
 /// How many bytes an instruction has.
@@ -40,8 +41,8 @@ fn ins_size(ins: Ins) -> usize
 fn branch_at(branch: Branch, target: u32, at: u32) -> Ins
     ensures { chosen result ≡ branch_at branch target at }
 {
-    let behind = at.wrapping_add(ins_size(branch_by(branch, 0)) as u32);
-    branch_by(branch, distance(target, behind))
+    let after = at.wrapping_add(ins_size(branch_by(branch, 0)) as u32);
+    branch_by(branch, distance(target, after))
 }
 
 fn target_offset(value: u32, target: Target) -> u32
@@ -64,7 +65,7 @@ fn target_label(target: Target) -> Option<Name>
 
 /// The label that a statement waits for.
 pub(crate) fn label_of(statement: &Statement) -> Option<Name>
-    ensures { result ≡ label_of (seen statement.now) }
+    ensures { result ≡ label_of (statement_view statement.now) }
 {
     match statement {
         Statement::LoadLabel(_, name) | Statement::PushLabel(name) => Some(*name),
@@ -75,7 +76,7 @@ pub(crate) fn label_of(statement: &Statement) -> Option<Name>
 
 /// How many bytes a statement has, whatever its label's value and wherever it stands.
 pub(crate) fn size_of(statement: &Statement) -> usize
-    ensures { result ≡ size_of (seen statement.now) }
+    ensures { result ≡ size_of (statement_view statement.now) }
 {
     match statement {
         Statement::Whole(ins) => ins_size(*ins),
@@ -115,7 +116,8 @@ pub(crate) fn put_statement(
     at: u32,
     value: u32,
 ) -> Result<(), NoMemory>
-    ensures { OnOk result (code.new.bytes ≡ code.old.bytes ++ bytes_at at value (seen statement.now)) }
+    ensures { OnOk result (code.new.bytes ≡ code.old.bytes
+        ++ bytes_at at value (statement_view statement.now)) }
 {
     match statement {
         Statement::Whole(ins) => put_ins(code, *ins),

@@ -2,9 +2,9 @@
 
 ghost use Rattle.std.specs.Prelude.{◌≡◌, ◌≢◌, true, [], ◌∷◌, ◌++◌, map, option_map, option_and_then, MatchOption, MatchResult};
 ghost use Rattle.pal_asm.specs.Statements.{memory, mov_of, movzx_of, lea_of, alu_of, test_of, push_of, shift_of, imul_of, unary_of, branch_of, int_of, long_of, zero_of, statement_of, least_number, most_number};
-ghost use Rattle.pal_asm.specs.Statements.{Whole, Bytes as Spelled};
+ghost use Rattle.pal_asm.specs.Statements.{Bytes as Spelled};
 ghost use Rattle.pal_asm.specs.Seen.{operand_as, RefusesAlone};
-ghost use Rattle.pal_asm.specs.SeenStatements.{seen, listed, pieces, AreMore, number_byte, operand_byte};
+ghost use Rattle.pal_asm.specs.SeenStatements.{statement_view, operand_list, pieces, AreMore, number_byte, operand_byte};
 ghost use Rattle.pal_asm.specs.Tokens.{tokens};
 ghost use Rattle.pal_asm.specs.Operands.{all_operands, operand_of, operands_of, is_in_range};
 ghost use Rattle.pal_asm.specs.Assembling.{statement_in};
@@ -12,7 +12,9 @@ ghost use Rattle.std.specs.List.{list_all};
 
 use crate::commas::split_comma;
 use crate::fault::{AsmKind, LineFault};
-use crate::names::{Branch, Mnemonic, Name};
+use crate::limits::MOST_CODE;
+use crate::name::Name;
+use crate::names::{Branch, Mnemonic};
 use crate::numbers::{low8, low32};
 use crate::operand::{Operand, Place, Target, is_in_range, is_within, operand_of};
 use crate::tokens::is_blank_text;
@@ -40,9 +42,6 @@ enum Operands {
     Two(Operand, Operand),
 }
 
-/// The most bytes of code.
-pub(crate) const MOST_CODE: usize = 49_120;
-
 fn memory(place: Place) -> Mem
     ensures { result ≡ memory place }
 {
@@ -53,7 +52,7 @@ fn memory(place: Place) -> Mem
 }
 
 fn mov_of(a: Operand, b: Operand) -> Option<Statement>
-    ensures { option_map seen result ≡ mov_of (a ∷ b ∷ []) }
+    ensures { option_map statement_view result ≡ mov_of (a ∷ b ∷ []) }
 {
     match (a, b) {
         (Operand::Register(r), Operand::Number(n)) => Some(Statement::Whole(Ins::Load(
@@ -83,76 +82,116 @@ fn mov_of(a: Operand, b: Operand) -> Option<Statement>
     }
 }
 
-fn movzx_of(a: Operand, b: Operand) -> Option<Ins>
-    ensures { option_map Whole result ≡ movzx_of (a ∷ b ∷ []) }
+fn movzx_of(a: Operand, b: Operand) -> Option<Statement>
+    ensures { option_map statement_view result ≡ movzx_of (a ∷ b ∷ []) }
 {
     match (a, b) {
-        (Operand::Register(r), Operand::Byte(p)) => Some(Ins::Widen(r, memory(p))),
-        (Operand::Register(r), Operand::ByteRegister(b)) => Some(Ins::WidenReg(r, b)),
+        (Operand::Register(r), Operand::Byte(p)) => Some(Statement::Whole(Ins::Widen(
+            r,
+            memory(p),
+        ))),
+        (Operand::Register(r), Operand::ByteRegister(b)) => Some(Statement::Whole(Ins::WidenReg(
+            r, b,
+        ))),
         _ => None,
     }
 }
 
-fn lea_of(a: Operand, b: Operand) -> Option<Ins>
-    ensures { option_map Whole result ≡ lea_of (a ∷ b ∷ []) }
+fn lea_of(a: Operand, b: Operand) -> Option<Statement>
+    ensures { option_map statement_view result ≡ lea_of (a ∷ b ∷ []) }
 {
     match (a, b) {
-        (Operand::Register(r), Operand::Memory(p)) => Some(Ins::Lea(r, memory(p))),
+        (Operand::Register(r), Operand::Memory(p)) => Some(Statement::Whole(Ins::Lea(
+            r,
+            memory(p),
+        ))),
         _ => None,
     }
 }
 
-fn alu_of(op: AluOp, a: Operand, b: Operand) -> Option<Ins>
-    ensures { option_map Whole result ≡ alu_of op (a ∷ b ∷ []) }
+fn alu_of(op: AluOp, a: Operand, b: Operand) -> Option<Statement>
+    ensures { option_map statement_view result ≡ alu_of op (a ∷ b ∷ []) }
 {
     match (a, b) {
-        (Operand::Register(s), Operand::Register(r)) => Some(Ins::Alu(op, Rm::Reg(s), r)),
-        (Operand::Memory(p), Operand::Register(r)) => Some(Ins::Alu(op, Rm::Mem(memory(p)), r)),
-        (Operand::Register(r), Operand::Memory(p)) => Some(Ins::AluFrom(op, r, memory(p))),
-        (Operand::Register(r), Operand::Number(n)) => Some(Ins::AluImm(op, Rm::Reg(r), low32(n))),
+        (Operand::Register(s), Operand::Register(r)) => Some(Statement::Whole(Ins::Alu(
+            op,
+            Rm::Reg(s),
+            r,
+        ))),
+        (Operand::Memory(p), Operand::Register(r)) => Some(Statement::Whole(Ins::Alu(
+            op,
+            Rm::Mem(memory(p)),
+            r,
+        ))),
+        (Operand::Register(r), Operand::Memory(p)) => Some(Statement::Whole(Ins::AluFrom(
+            op,
+            r,
+            memory(p),
+        ))),
+        (Operand::Register(r), Operand::Number(n)) => Some(Statement::Whole(Ins::AluImm(
+            op,
+            Rm::Reg(r),
+            low32(n),
+        ))),
         (Operand::Dword(p), Operand::Number(n)) => {
-            Some(Ins::AluImm(op, Rm::Mem(memory(p)), low32(n)))
+            Some(Statement::Whole(Ins::AluImm(op, Rm::Mem(memory(p)), low32(n))))
         }
         _ => None,
     }
 }
 
-fn test_of(a: Operand, b: Operand) -> Option<Ins>
-    ensures { option_map Whole result ≡ test_of (a ∷ b ∷ []) }
+fn test_of(a: Operand, b: Operand) -> Option<Statement>
+    ensures { option_map statement_view result ≡ test_of (a ∷ b ∷ []) }
 {
     match (a, b) {
-        (Operand::Register(s), Operand::Register(r)) => Some(Ins::Test(Rm::Reg(s), r)),
-        (Operand::Memory(p), Operand::Register(r)) => Some(Ins::Test(Rm::Mem(memory(p)), r)),
+        (Operand::Register(s), Operand::Register(r)) => Some(Statement::Whole(Ins::Test(
+            Rm::Reg(s),
+            r,
+        ))),
+        (Operand::Memory(p), Operand::Register(r)) => Some(Statement::Whole(Ins::Test(
+            Rm::Mem(memory(p)),
+            r,
+        ))),
         _ => None,
     }
 }
 
-fn shift_of(op: ShiftOp, a: Operand, b: Operand) -> Option<Ins>
-    ensures { option_map Whole result ≡ shift_of op (a ∷ b ∷ []) }
+fn shift_of(op: ShiftOp, a: Operand, b: Operand) -> Option<Statement>
+    ensures { option_map statement_view result ≡ shift_of op (a ∷ b ∷ []) }
 {
     match (a, b) {
-        (Operand::Register(r), Operand::Number(n)) => Some(Ins::Shift(op, Rm::Reg(r), low8(n))),
-        (Operand::Dword(p), Operand::Number(n)) => Some(Ins::Shift(
+        (Operand::Register(r), Operand::Number(n)) => Some(Statement::Whole(Ins::Shift(
+            op,
+            Rm::Reg(r),
+            low8(n),
+        ))),
+        (Operand::Dword(p), Operand::Number(n)) => Some(Statement::Whole(Ins::Shift(
             op,
             Rm::Mem(memory(p)),
             low8(n),
-        )),
+        ))),
         _ => None,
     }
 }
 
-fn imul_of(a: Operand, b: Operand) -> Option<Ins>
-    ensures { option_map Whole result ≡ imul_of (a ∷ b ∷ []) }
+fn imul_of(a: Operand, b: Operand) -> Option<Statement>
+    ensures { option_map statement_view result ≡ imul_of (a ∷ b ∷ []) }
 {
     match (a, b) {
-        (Operand::Register(r), Operand::Register(s)) => Some(Ins::Imul(r, Rm::Reg(s))),
-        (Operand::Register(r), Operand::Memory(p)) => Some(Ins::Imul(r, Rm::Mem(memory(p)))),
+        (Operand::Register(r), Operand::Register(s)) => Some(Statement::Whole(Ins::Imul(
+            r,
+            Rm::Reg(s),
+        ))),
+        (Operand::Register(r), Operand::Memory(p)) => Some(Statement::Whole(Ins::Imul(
+            r,
+            Rm::Mem(memory(p)),
+        ))),
         _ => None,
     }
 }
 
 fn push_of(a: Operand) -> Option<Statement>
-    ensures { option_map seen result ≡ push_of (a ∷ []) }
+    ensures { option_map statement_view result ≡ push_of (a ∷ []) }
 {
     match a {
         Operand::Register(r) => Some(Statement::Whole(Ins::Push(r))),
@@ -162,45 +201,45 @@ fn push_of(a: Operand) -> Option<Statement>
     }
 }
 
-fn inc_of(a: Operand) -> Option<Ins>
-    ensures { option_map Whole result ≡ statement_of Mnemonic.Inc (a ∷ []) }
+fn inc_of(a: Operand) -> Option<Statement>
+    ensures { option_map statement_view result ≡ statement_of Mnemonic.Inc (a ∷ []) }
 {
     match a {
-        Operand::Register(r) => Some(Ins::Inc(r)),
+        Operand::Register(r) => Some(Statement::Whole(Ins::Inc(r))),
         _ => None,
     }
 }
 
-fn dec_of(a: Operand) -> Option<Ins>
-    ensures { option_map Whole result ≡ statement_of Mnemonic.Dec (a ∷ []) }
+fn dec_of(a: Operand) -> Option<Statement>
+    ensures { option_map statement_view result ≡ statement_of Mnemonic.Dec (a ∷ []) }
 {
     match a {
-        Operand::Register(r) => Some(Ins::Dec(r)),
+        Operand::Register(r) => Some(Statement::Whole(Ins::Dec(r))),
         _ => None,
     }
 }
 
-fn pop_of(a: Operand) -> Option<Ins>
-    ensures { option_map Whole result ≡ statement_of Mnemonic.Pop (a ∷ []) }
+fn pop_of(a: Operand) -> Option<Statement>
+    ensures { option_map statement_view result ≡ statement_of Mnemonic.Pop (a ∷ []) }
 {
     match a {
-        Operand::Register(r) => Some(Ins::Pop(r)),
+        Operand::Register(r) => Some(Statement::Whole(Ins::Pop(r))),
         _ => None,
     }
 }
 
-fn unary_of(op: UnaryOp, a: Operand) -> Option<Ins>
-    ensures { option_map Whole result ≡ unary_of op (a ∷ []) }
+fn unary_of(op: UnaryOp, a: Operand) -> Option<Statement>
+    ensures { option_map statement_view result ≡ unary_of op (a ∷ []) }
 {
     match a {
-        Operand::Register(r) => Some(Ins::Unary(op, Rm::Reg(r))),
-        Operand::Dword(p) => Some(Ins::Unary(op, Rm::Mem(memory(p)))),
+        Operand::Register(r) => Some(Statement::Whole(Ins::Unary(op, Rm::Reg(r)))),
+        Operand::Dword(p) => Some(Statement::Whole(Ins::Unary(op, Rm::Mem(memory(p))))),
         _ => None,
     }
 }
 
 fn branch_of(branch: Branch, a: Operand) -> Option<Statement>
-    ensures { option_map seen result ≡ branch_of branch (a ∷ []) }
+    ensures { option_map statement_view result ≡ branch_of branch (a ∷ []) }
 {
     match a {
         Operand::Label(name) => Some(Statement::Jump(branch, Target::Label(name))),
@@ -209,17 +248,17 @@ fn branch_of(branch: Branch, a: Operand) -> Option<Statement>
     }
 }
 
-fn int_of(a: Operand) -> Option<Ins>
-    ensures { option_map Whole result ≡ int_of (a ∷ []) }
+fn int_of(a: Operand) -> Option<Statement>
+    ensures { option_map statement_view result ≡ int_of (a ∷ []) }
 {
     match a {
-        Operand::Number(n) => Some(Ins::Gate(low8(n))),
+        Operand::Number(n) => Some(Statement::Whole(Ins::Gate(low8(n)))),
         _ => None,
     }
 }
 
 fn long_of(a: Operand) -> Option<Statement>
-    ensures { option_map seen result ≡ long_of (a ∷ []) }
+    ensures { option_map statement_view result ≡ long_of (a ∷ []) }
 {
     match a {
         Operand::Number(n) => Some(Statement::Long(low32(n))),
@@ -228,7 +267,7 @@ fn long_of(a: Operand) -> Option<Statement>
 }
 
 fn zero_of(a: Operand) -> Option<Statement>
-    ensures { option_map seen result ≡ zero_of (a ∷ []) }
+    ensures { option_map statement_view result ≡ zero_of (a ∷ []) }
 {
     match a {
         Operand::Number(n) => Some(Statement::Zeros(low32(n))),
@@ -238,7 +277,7 @@ fn zero_of(a: Operand) -> Option<Statement>
 
 /// A statement without operands.
 fn with_none(mnemonic: Mnemonic) -> Option<Statement>
-    ensures { option_map seen result ≡ statement_of mnemonic [] }
+    ensures { option_map statement_view result ≡ statement_of mnemonic [] }
 {
     match mnemonic {
         Mnemonic::Ret => Some(Statement::Whole(Ins::Ret)),
@@ -250,16 +289,16 @@ fn with_none(mnemonic: Mnemonic) -> Option<Statement>
 /// A statement with one operand.
 fn with_one(mnemonic: Mnemonic, a: Operand) -> Option<Statement>
     requires { mnemonic ≢ Mnemonic.Byte }
-    ensures { option_map seen result ≡ statement_of mnemonic (a ∷ []) }
+    ensures { option_map statement_view result ≡ statement_of mnemonic (a ∷ []) }
 {
     match mnemonic {
-        Mnemonic::Inc => Some(Statement::Whole(inc_of(a)?)),
-        Mnemonic::Dec => Some(Statement::Whole(dec_of(a)?)),
+        Mnemonic::Inc => inc_of(a),
+        Mnemonic::Dec => dec_of(a),
         Mnemonic::Push => push_of(a),
-        Mnemonic::Pop => Some(Statement::Whole(pop_of(a)?)),
-        Mnemonic::Unary(op) => Some(Statement::Whole(unary_of(op, a)?)),
+        Mnemonic::Pop => pop_of(a),
+        Mnemonic::Unary(op) => unary_of(op, a),
         Mnemonic::Branch(branch) => branch_of(branch, a),
-        Mnemonic::Int => Some(Statement::Whole(int_of(a)?)),
+        Mnemonic::Int => int_of(a),
         Mnemonic::Long => long_of(a),
         Mnemonic::Zero => zero_of(a),
         _ => None,
@@ -269,23 +308,23 @@ fn with_one(mnemonic: Mnemonic, a: Operand) -> Option<Statement>
 /// A statement with two operands.
 fn with_two(mnemonic: Mnemonic, a: Operand, b: Operand) -> Option<Statement>
     requires { mnemonic ≢ Mnemonic.Byte }
-    ensures { option_map seen result ≡ statement_of mnemonic (a ∷ b ∷ []) }
+    ensures { option_map statement_view result ≡ statement_of mnemonic (a ∷ b ∷ []) }
 {
     match mnemonic {
         Mnemonic::Mov => mov_of(a, b),
-        Mnemonic::Movzx => Some(Statement::Whole(movzx_of(a, b)?)),
-        Mnemonic::Lea => Some(Statement::Whole(lea_of(a, b)?)),
-        Mnemonic::Alu(op) => Some(Statement::Whole(alu_of(op, a, b)?)),
-        Mnemonic::Test => Some(Statement::Whole(test_of(a, b)?)),
-        Mnemonic::Shift(op) => Some(Statement::Whole(shift_of(op, a, b)?)),
-        Mnemonic::Imul => Some(Statement::Whole(imul_of(a, b)?)),
+        Mnemonic::Movzx => movzx_of(a, b),
+        Mnemonic::Lea => lea_of(a, b),
+        Mnemonic::Alu(op) => alu_of(op, a, b),
+        Mnemonic::Test => test_of(a, b),
+        Mnemonic::Shift(op) => shift_of(op, a, b),
+        Mnemonic::Imul => imul_of(a, b),
         _ => None,
     }
 }
 
 fn statement_of(mnemonic: Mnemonic, operands: Operands) -> Option<Statement>
     requires { mnemonic ≢ Mnemonic.Byte }
-    ensures { option_map seen result ≡ statement_of mnemonic (listed operands) }
+    ensures { option_map statement_view result ≡ statement_of mnemonic (operand_list operands) }
 {
     match operands {
         Operands::Nothing => with_none(mnemonic),
@@ -316,15 +355,16 @@ fn most_number(mnemonic: Mnemonic) -> i64
     }
 }
 
-fn are_in_range(mnemonic: Mnemonic, operands: Operands) -> bool
-    ensures { result ≡ list_all (is_in_range (least_number mnemonic) (most_number mnemonic)) (listed operands) }
+fn are_in_range(mnemonic: Mnemonic, operands: &Operands) -> bool
+    ensures { result ≡ list_all (is_in_range (least_number mnemonic) (most_number mnemonic))
+        (operand_list operands.now) }
 {
     let least = least_number(mnemonic);
     let most = most_number(mnemonic);
     match operands {
         Operands::Nothing => true,
-        Operands::One(a) => is_in_range(least, most, a),
-        Operands::Two(a, b) => is_in_range(least, most, a) && is_in_range(least, most, b),
+        Operands::One(a) => is_in_range(least, most, *a),
+        Operands::Two(a, b) => is_in_range(least, most, *a) && is_in_range(least, most, *b),
     }
 }
 
@@ -333,8 +373,8 @@ fn sole_operand(text: &[u8]) -> Option<Operand>
     ensures { MatchOption result (AreMore 1 (all_operands (pieces text.now)))
         (λ o. option_map (map operand_as) (all_operands (pieces text.now)) ≡ Some (o ∷ [])) }
 {
-    let (piece, behind) = split_comma(text);
-    match behind {
+    let (piece, after) = split_comma(text);
+    match after {
         None => operand_of(piece),
         Some(_) => None,
     }
@@ -343,10 +383,11 @@ fn sole_operand(text: &[u8]) -> Option<Operand>
 /// One or two operands.
 fn some_operands(text: &[u8]) -> Option<Operands>
     ensures { MatchOption result (AreMore 2 (all_operands (pieces text.now)))
-        (λ os. option_map (map operand_as) (all_operands (pieces text.now)) ≡ Some (listed os)) }
+        (λ os. option_map (map operand_as) (all_operands (pieces text.now))
+        ≡ Some (operand_list os)) }
 {
-    let (first, behind) = split_comma(text);
-    match behind {
+    let (first, after) = split_comma(text);
+    match after {
         None => Some(Operands::One(operand_of(first)?)),
         Some(rest) => {
             let a = operand_of(first)?;
@@ -358,7 +399,8 @@ fn some_operands(text: &[u8]) -> Option<Operands>
 /// None, one or two operands. Nothing but `.byte` takes more.
 fn operands_of(text: &[u8]) -> Option<Operands>
     ensures { MatchOption result (AreMore 2 (operands_of (tokens text.now)))
-        (λ os. option_map (map operand_as) (operands_of (tokens text.now)) ≡ Some (listed os)) }
+        (λ os. option_map (map operand_as) (operands_of (tokens text.now))
+        ≡ Some (operand_list os)) }
 {
     if is_blank_text(text) {
         Some(Operands::Nothing)
@@ -404,18 +446,19 @@ fn byte_of(piece: &[u8]) -> Option<ByteNumber>
     }
 }
 
-/// One more byte behind those before, where there was room for them and is room for it.
+/// One more byte after those before, where there was room for them and is room for it.
 fn keep(bytes: &mut Bytes, is_room: bool, byte: u8) -> bool
     ensures { result ≡ true → (is_room ≡ true) × (bytes.new.bytes ≡ bytes.old.bytes ++ byte ∷ []) }
 {
     is_room && bytes.push_all(&[byte]).is_ok()
 }
 
-/// One number or more, between commas. A piece that is none comes before a number outside its range, and both before want
-/// of memory.
+/// One number or more, between commas. A piece that is none comes before a number outside its
+/// range, and both before out of memory.
 fn bytes_of(alloc: Global, text: &[u8]) -> Result<Bytes, LineFault>
     ensures { MatchResult result
-        (λ bytes. statement_in (Some (Mnemonic.Byte, tokens text.now)) ≡ Ok (Some (Spelled bytes.bytes)))
+        (λ bytes. statement_in (Some (Mnemonic.Byte, tokens text.now))
+        ≡ Ok (Some (Spelled bytes.bytes)))
         (λ fault. RefusesAlone fault (statement_in (Some (Mnemonic.Byte, tokens text.now)))) }
 {
     let mut bytes = Bytes::new(alloc);
@@ -423,7 +466,7 @@ fn bytes_of(alloc: Global, text: &[u8]) -> Result<Bytes, LineFault>
     let mut is_room = true;
     let mut rest = Some(text);
     'pieces: while let Some(pieces) = rest {
-        let (piece, behind) = split_comma(pieces);
+        let (piece, after) = split_comma(pieces);
         let Some(byte) = byte_of(piece) else {
             return Err(LineFault::Kind(AsmKind::Operand));
         };
@@ -431,7 +474,7 @@ fn bytes_of(alloc: Global, text: &[u8]) -> Result<Bytes, LineFault>
             ByteNumber::Within(byte) => is_room = keep(&mut bytes, is_room, byte),
             ByteNumber::Outside => are_in_range = false,
         }
-        rest = behind;
+        rest = after;
     }
     if !are_in_range {
         Err(LineFault::Kind(AsmKind::Range))
@@ -446,35 +489,37 @@ fn bytes_of(alloc: Global, text: &[u8]) -> Result<Bytes, LineFault>
 fn plain_statement(mnemonic: Mnemonic, text: &[u8]) -> Result<Statement, AsmKind>
     requires { mnemonic ≢ Mnemonic.Byte }
     ensures { MatchResult result
-        (λ statement. statement_in (Some (mnemonic, tokens text.now)) ≡ Ok (Some (seen statement)))
+        (λ statement. statement_in (Some (mnemonic, tokens text.now))
+        ≡ Ok (Some (statement_view statement)))
         (λ kind. statement_in (Some (mnemonic, tokens text.now)) ≡ Err kind) }
 {
     let Some(operands) = operands_of(text) else {
         return Err(AsmKind::Operand);
     };
+    let fits = are_in_range(mnemonic, &operands);
     let Some(statement) = statement_of(mnemonic, operands) else {
         return Err(AsmKind::Operand);
     };
-    if are_in_range(mnemonic, operands) {
+    if fits {
         Ok(statement)
     } else {
         Err(AsmKind::Range)
     }
 }
 
-/// A statement by its word and the text behind it, or its first fault.
+/// A statement by its word and the text after it, or its first fault.
 pub(crate) fn statement_in(
     alloc: Global,
     mnemonic: Mnemonic,
     text: &[u8],
 ) -> Result<Statement, LineFault>
     ensures { MatchResult result
-        (λ statement. statement_in (Some (mnemonic, tokens text.now)) ≡ Ok (Some (seen statement)))
+        (λ statement. statement_in (Some (mnemonic, tokens text.now))
+        ≡ Ok (Some (statement_view statement)))
         (λ fault. RefusesAlone fault (statement_in (Some (mnemonic, tokens text.now)))) }
 {
-    if mnemonic == Mnemonic::Byte {
-        Ok(Statement::Bytes(bytes_of(alloc, text)?))
-    } else {
-        plain_statement(mnemonic, text).map_err(LineFault::Kind)
+    match mnemonic {
+        Mnemonic::Byte => Ok(Statement::Bytes(bytes_of(alloc, text)?)),
+        _ => plain_statement(mnemonic, text).map_err(LineFault::Kind),
     }
 }

@@ -1,9 +1,9 @@
-//! The tokens of a text, taken from its front.
+//! The tokens of a text, one after another.
 
 ghost use Rattle.std.specs.Prelude.{◌≡◌, ◌≤◌, List, [], ◌∷◌, length, not, MatchOption, MatchBool, ◌≢◌};
 ghost use Rattle.std.specs.List.{prefix_len};
-ghost use Rattle.pal_asm.specs.Tokens.{is_blank, is_name_byte, is_word_byte, mark_of, tokens};
-ghost use Rattle.pal_asm.specs.SeenTokens.{seen, after_minus};
+ghost use Rattle.pal_asm.specs.Tokens.{is_space_or_tab, is_name_byte, is_word_byte, mark_of, tokens};
+ghost use Rattle.pal_asm.specs.SeenTokens.{token_view, after_minus};
 
 /// A word, a word with a minus directly before it, or one of the other characters.
 #[derive(Clone, Copy)]
@@ -19,8 +19,8 @@ pub(crate) enum Token<'a> {
     Other,
 }
 
-fn is_blank(c: u8) -> bool
-    ensures { result ≡ is_blank c }
+fn is_space_or_tab(c: u8) -> bool
+    ensures { result ≡ is_space_or_tab c }
 {
     c == b' ' || c == b'\t'
 }
@@ -38,12 +38,12 @@ fn is_word_byte(c: u8) -> bool
     is_name_byte(c) || c == b'.'
 }
 
-/// How many blanks begin the text.
-fn blanks(text: &[u8]) -> usize
-    ensures value { result ≡ prefix_len is_blank text.now }
+/// How many spaces and tabs begin the text.
+fn space_count(text: &[u8]) -> usize
+    ensures value { result ≡ prefix_len is_space_or_tab text.now }
     ensures within { result ≤ length text.now }
 {
-    text.iter().take_while(|c| is_blank(**c)).count()
+    text.iter().take_while(|c| is_space_or_tab(**c)).count()
 }
 
 /// How many characters of a word begin the text.
@@ -55,7 +55,7 @@ fn word_length(text: &[u8]) -> usize
 }
 
 fn mark(c: u8) -> Token<'static>
-    ensures { seen result ≡ mark_of c }
+    ensures { token_view result ≡ mark_of c }
 {
     match c {
         b'[' => Token::Open,
@@ -70,7 +70,7 @@ fn mark(c: u8) -> Token<'static>
 
 /// The token that a minus begins.
 fn after_minus(text: &[u8]) -> (Token<'_>, &[u8])
-    ensures { seen result.0 ∷ tokens result.1.now ≡ after_minus text.now }
+    ensures { token_view result.0 ∷ tokens result.1.now ≡ after_minus text.now }
 {
     match text.split_at(word_length(text)) {
         ([], _) => (Token::Minus, text),
@@ -78,19 +78,20 @@ fn after_minus(text: &[u8]) -> (Token<'_>, &[u8])
     }
 }
 
-/// The first token of a text and what stands behind it.
+/// The first token of a text and what stands after it.
 pub(crate) fn first_token(text: &[u8]) -> Option<(Token<'_>, &[u8])>
-    ensures { MatchOption result (tokens text.now ≡ []) (λ r. tokens text.now ≡ seen r.0 ∷ tokens r.1.now) }
+    ensures { MatchOption result (tokens text.now ≡ [])
+        (λ r. tokens text.now ≡ token_view r.0 ∷ tokens r.1.now) }
 {
-    let text = &text[blanks(text)..];
-    let (first, behind) = text.split_first()?;
+    let text = &text[space_count(text)..];
+    let (first, after) = text.split_first()?;
     if is_word_byte(*first) {
         let (word, rest) = text.split_at(word_length(text));
         Some((Token::Word(word), rest))
     } else if *first == b'-' {
-        Some(after_minus(behind))
+        Some(after_minus(after))
     } else {
-        Some((mark(*first), behind))
+        Some((mark(*first), after))
     }
 }
 

@@ -65,14 +65,16 @@ impl Text {
     }
 
     fn byte_register(&mut self, b: ByteReg) -> Result<(), NoMemory>
-        ensures { OnOk result (self.new.bytes.bytes ≡ self.old.bytes.bytes ++ byte_register_name b) }
+        ensures { OnOk result (self.new.bytes.bytes ≡ self.old.bytes.bytes
+            ++ byte_register_name b) }
     {
         self.put(byte_register_name(b))
     }
 
     /// A displacement as a signed number, missing where it is 0.
     fn displacement(&mut self, disp: u32) -> Result<(), NoMemory>
-        ensures { OnOk result (self.new.bytes.bytes ≡ self.old.bytes.bytes ++ displacement_text disp) }
+        ensures { OnOk result (self.new.bytes.bytes ≡ self.old.bytes.bytes
+            ++ displacement_text disp) }
     {
         if disp == 0 {
             Ok(())
@@ -127,9 +129,10 @@ impl Text {
         self.put(mnemonic_name(mnemonic))
     }
 
-    /// The word and the space behind it.
+    /// The word and the space after it.
     pub(crate) fn begin(&mut self, mnemonic: Mnemonic) -> Result<(), NoMemory>
-        ensures { OnOk result (self.new.bytes.bytes ≡ self.old.bytes.bytes ++ (mnemonic_name mnemonic ++ codes " ")) }
+        ensures { OnOk result (self.new.bytes.bytes ≡ self.old.bytes.bytes
+            ++ (mnemonic_name mnemonic ++ codes " ")) }
     {
         self.word(mnemonic)?;
         self.put(b" ")
@@ -142,14 +145,16 @@ impl Text {
     }
 
     fn register_only(&mut self, mnemonic: Mnemonic, r: Reg) -> Result<(), NoMemory>
-        ensures { OnOk result (self.new.bytes.bytes ≡ self.old.bytes.bytes ++ text1 mnemonic (register_name r)) }
+        ensures { OnOk result (self.new.bytes.bytes ≡ self.old.bytes.bytes
+            ++ text1 mnemonic (register_name r)) }
     {
         self.begin(mnemonic)?;
         self.register(r)
     }
 
     fn register_memory(&mut self, mnemonic: Mnemonic, r: Reg, place: Mem) -> Result<(), NoMemory>
-        ensures { OnOk result (self.new.bytes.bytes ≡ self.old.bytes.bytes ++ text2 mnemonic (register_name r) (memory_text place)) }
+        ensures { OnOk result (self.new.bytes.bytes ≡ self.old.bytes.bytes
+            ++ text2 mnemonic (register_name r) (memory_text place)) }
     {
         self.begin(mnemonic)?;
         self.register(r)?;
@@ -158,7 +163,8 @@ impl Text {
     }
 
     fn rm_register(&mut self, mnemonic: Mnemonic, rm: Rm, r: Reg) -> Result<(), NoMemory>
-        ensures { OnOk result (self.new.bytes.bytes ≡ self.old.bytes.bytes ++ text2 mnemonic (rm_text rm) (register_name r)) }
+        ensures { OnOk result (self.new.bytes.bytes ≡ self.old.bytes.bytes
+            ++ text2 mnemonic (rm_text rm) (register_name r)) }
     {
         self.begin(mnemonic)?;
         self.rm(rm)?;
@@ -167,7 +173,8 @@ impl Text {
     }
 
     fn dword_number(&mut self, mnemonic: Mnemonic, rm: Rm, n: u32) -> Result<(), NoMemory>
-        ensures { OnOk result (self.new.bytes.bytes ≡ self.old.bytes.bytes ++ text2 mnemonic (dword_text rm) (decimal n)) }
+        ensures { OnOk result (self.new.bytes.bytes ≡ self.old.bytes.bytes
+            ++ text2 mnemonic (dword_text rm) (decimal n)) }
     {
         self.begin(mnemonic)?;
         self.dword(rm)?;
@@ -176,7 +183,8 @@ impl Text {
     }
 
     fn memory_byte(&mut self, place: Mem, b: ByteReg) -> Result<(), NoMemory>
-        ensures { OnOk result (self.new.bytes.bytes ≡ self.old.bytes.bytes ++ text2 Mnemonic.Mov (memory_text place) (byte_register_name b)) }
+        ensures { OnOk result (self.new.bytes.bytes ≡ self.old.bytes.bytes
+            ++ text2 Mnemonic.Mov (memory_text place) (byte_register_name b)) }
     {
         self.begin(Mnemonic::Mov)?;
         self.memory(place)?;
@@ -185,7 +193,8 @@ impl Text {
     }
 
     fn byte_memory(&mut self, b: ByteReg, place: Mem) -> Result<(), NoMemory>
-        ensures { OnOk result (self.new.bytes.bytes ≡ self.old.bytes.bytes ++ text2 Mnemonic.Mov (byte_register_name b) (memory_text place)) }
+        ensures { OnOk result (self.new.bytes.bytes ≡ self.old.bytes.bytes
+            ++ text2 Mnemonic.Mov (byte_register_name b) (memory_text place)) }
     {
         self.begin(Mnemonic::Mov)?;
         self.byte_register(b)?;
@@ -194,7 +203,8 @@ impl Text {
     }
 
     fn widen(&mut self, r: Reg, place: Mem) -> Result<(), NoMemory>
-        ensures { OnOk result (self.new.bytes.bytes ≡ self.old.bytes.bytes ++ text2 Mnemonic.Movzx (register_name r) (codes "byte " ++ memory_text place)) }
+        ensures { OnOk result (self.new.bytes.bytes ≡ self.old.bytes.bytes
+            ++ text2 Mnemonic.Movzx (register_name r) (codes "byte " ++ memory_text place)) }
     {
         self.begin(Mnemonic::Movzx)?;
         self.register(r)?;
@@ -203,7 +213,8 @@ impl Text {
     }
 
     fn widen_register(&mut self, r: Reg, b: ByteReg) -> Result<(), NoMemory>
-        ensures { OnOk result (self.new.bytes.bytes ≡ self.old.bytes.bytes ++ text2 Mnemonic.Movzx (register_name r) (byte_register_name b)) }
+        ensures { OnOk result (self.new.bytes.bytes ≡ self.old.bytes.bytes
+            ++ text2 Mnemonic.Movzx (register_name r) (byte_register_name b)) }
     {
         self.begin(Mnemonic::Movzx)?;
         self.register(r)?;
@@ -212,7 +223,8 @@ impl Text {
     }
 
     fn register_rm(&mut self, mnemonic: Mnemonic, r: Reg, rm: Rm) -> Result<(), NoMemory>
-        ensures { OnOk result (self.new.bytes.bytes ≡ self.old.bytes.bytes ++ text2 mnemonic (register_name r) (rm_text rm)) }
+        ensures { OnOk result (self.new.bytes.bytes ≡ self.old.bytes.bytes
+            ++ text2 mnemonic (register_name r) (rm_text rm)) }
     {
         self.begin(mnemonic)?;
         self.register(r)?;
@@ -221,7 +233,8 @@ impl Text {
     }
 
     fn dword_only(&mut self, mnemonic: Mnemonic, rm: Rm) -> Result<(), NoMemory>
-        ensures { OnOk result (self.new.bytes.bytes ≡ self.old.bytes.bytes ++ text1 mnemonic (dword_text rm)) }
+        ensures { OnOk result (self.new.bytes.bytes ≡ self.old.bytes.bytes
+            ++ text1 mnemonic (dword_text rm)) }
     {
         self.begin(mnemonic)?;
         self.dword(rm)
@@ -229,23 +242,25 @@ impl Text {
 
     /// A word and a number.
     pub(crate) fn number_only(&mut self, mnemonic: Mnemonic, n: u32) -> Result<(), NoMemory>
-        ensures { OnOk result (self.new.bytes.bytes ≡ self.old.bytes.bytes ++ text1 mnemonic (decimal n)) }
+        ensures { OnOk result (self.new.bytes.bytes ≡ self.old.bytes.bytes
+            ++ text1 mnemonic (decimal n)) }
     {
         self.begin(mnemonic)?;
         self.decimal(n)
     }
 
-    fn branch(&mut self, branch: Branch, behind: u32, rel: u32) -> Result<(), NoMemory>
-        ensures { OnOk result (self.new.bytes.bytes ≡ self.old.bytes.bytes ++ text1 (Mnemonic.Branch branch) (target_text behind rel)) }
+    fn branch(&mut self, branch: Branch, after: u32, rel: u32) -> Result<(), NoMemory>
+        ensures { OnOk result (self.new.bytes.bytes ≡ self.old.bytes.bytes
+            ++ text1 (Mnemonic.Branch branch) (target_text after rel)) }
     {
         self.begin(Mnemonic::Branch(branch))?;
         self.put(b"0x")?;
-        self.hexadecimal(behind.wrapping_add(rel))
+        self.hexadecimal(after.wrapping_add(rel))
     }
 
     /// An instruction, before this offset.
-    pub(crate) fn ins(&mut self, behind: u32, ins: Ins) -> Result<(), NoMemory>
-        ensures { OnOk result (self.new.bytes.bytes ≡ self.old.bytes.bytes ++ ins_text behind ins) }
+    pub(crate) fn ins(&mut self, after: u32, ins: Ins) -> Result<(), NoMemory>
+        ensures { OnOk result (self.new.bytes.bytes ≡ self.old.bytes.bytes ++ ins_text after ins) }
     {
         match ins {
             Ins::Load(r, n) => self.dword_number(Mnemonic::Mov, Rm::Reg(r), n),
@@ -271,9 +286,9 @@ impl Text {
             }
             Ins::Imul(r, rm) => self.register_rm(Mnemonic::Imul, r, rm),
             Ins::Unary(op, rm) => self.dword_only(Mnemonic::Unary(op), rm),
-            Ins::Jmp(rel) => self.branch(Branch::Jmp, behind, rel),
-            Ins::Jcc(condition, rel) => self.branch(Branch::Jcc(condition), behind, rel),
-            Ins::Call(rel) => self.branch(Branch::Call, behind, rel),
+            Ins::Jmp(rel) => self.branch(Branch::Jmp, after, rel),
+            Ins::Jcc(condition, rel) => self.branch(Branch::Jcc(condition), after, rel),
+            Ins::Call(rel) => self.branch(Branch::Call, after, rel),
             Ins::Ret => self.word(Mnemonic::Ret),
             Ins::Gate(n) => self.number_only(Mnemonic::Int, u32::from(n)),
             Ins::Nop => self.word(Mnemonic::Nop),

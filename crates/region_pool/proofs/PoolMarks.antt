@@ -1,19 +1,25 @@
 -- What is true of every pool stays true where a span is taken or given back.
-use Rattle.std.proofs.Common.{◌≡◌, ◌≢◌, ℕ, zero, suc, ◌-◌, ◌<◌, ◌≤◌, ◌^◌, List, ◌∷◌, length, replicate, refl, sym, ap, ◌∙◌, inl, inr, arith, Some, slice_get}
+use Rattle.std.proofs.Common.{◌≡◌, ◌≢◌, ℕ, zero, suc, ◌-◌, ◌<◌, ◌≤◌, ◌^◌, List, ◌∷◌, length}
+use Rattle.std.proofs.Common.{replicate, refl, sym, ap, ◌∙◌, inl, inr, arith, Some, slice_get}
 use Rattle.std.proofs.lemmas.List.{length-replicate}
 use Rattle.std.proofs.lemmas.Bool.{cases_lt}
 use Rattle.std.proofs.lemmas.Option.{slice_get_within}
 use Rattle.region_pool.specs.declared.mark.Mark.{Mark}
 use Rattle.region_pool.specs.declared.mark.Mark.TheVariants as mark
 use Rattle.region_pool.specs.Marks.{IsPool}
-use Rattle.region_pool.specs.Spans.{Span, end_of, marks_of, Holds, IsDisjoint, with_span, without_span}
+use Rattle.region_pool.specs.Spans.{Span, end_of, marks_of, Holds, IsDisjoint, with_span}
+use Rattle.region_pool.specs.Spans.{without_span}
 use Rattle.region_pool.specs.Places.{IsPlace}
 use Rattle.region_pool.proofs.Search.{free-place, within-place}
 use Rattle.region_pool.proofs.Frames.{slice_get-replicate}
-use Rattle.region_pool.proofs.HeldSpans.{first_mark-next, first_mark-free, length-marks_of, Replaces, replaces-replaced, stands-from_held, held-from_stands, held-apart, held_apart, apart_from_free}
+use Rattle.region_pool.proofs.HeldSpans.{first_mark-next, first_mark-free, length-marks_of}
+use Rattle.region_pool.proofs.HeldSpans.{Replaces, replaces-with_marks, stands-from_held}
+use Rattle.region_pool.proofs.HeldSpans.{held-from_stands, held-apart, held_apart, apart_from_free}
 
 -- the first frame is no next frame, where the span's first new mark is none
-first_frame : (old new : List Mark) (span : Span) (others : List Mark) → IsPool old → Replaces old new span others → 1 ≤ span.frames → slice_get others 0 ≢ Some mark.Next → slice_get new 0 ≢ Some mark.Next
+first_frame : (old new : List Mark) (span : Span) (others : List Mark) → IsPool old
+    → Replaces old new span others → 1 ≤ span.frames → slice_get others 0 ≢ Some mark.Next
+    → slice_get new 0 ≢ Some mark.Next
 first_frame old new span others pool r some begins next =
     elim (cases_lt 0 span.first) [
       | inl l ↦ pool.continued 0 refl (sym (r.below 0 l) ∙ next)
@@ -21,7 +27,10 @@ first_frame old new span others pool r some begins next =
     ]
 
 -- the span's new marks have no free one
-taken_step : (old new : List Mark) (span : Span) (others : List Mark) → IsPool old → Replaces old new span others → 1 ≤ span.frames → slice_get others 0 ≢ Some mark.Next → ((k : ℕ) → k < span.frames → slice_get others k ≢ Some mark.Free) → (k : ℕ) → slice_get new k ≡ Some mark.Free → slice_get new (suc k) ≢ Some mark.Next
+taken_step : (old new : List Mark) (span : Span) (others : List Mark) → IsPool old
+    → Replaces old new span others → 1 ≤ span.frames → slice_get others 0 ≢ Some mark.Next
+    → ((k : ℕ) → k < span.frames → slice_get others k ≢ Some mark.Free) → (k : ℕ)
+    → slice_get new k ≡ Some mark.Free → slice_get new (suc k) ≢ Some mark.Next
 taken_step old new span others pool r some begins full k free next =
     elim (cases_lt k span.first) [
       | inl l ↦ elim (cases_lt (suc k) span.first) [
@@ -29,26 +38,39 @@ taken_step old new span others pool r some begins full k free next =
         | inr m ↦ begins (sym (r.inside 0 (suc k) some (omega arith)) ∙ next)
       ]
       | inr l ↦ elim (cases_lt k (end_of span)) [
-        | inl m ↦ full (k - span.first) (omega arith) (sym (r.inside (k - span.first) k (omega arith) (omega arith)) ∙ free)
-        | inr m ↦ pool.continued (suc k) (sym (r.above k m) ∙ free) (sym (r.above (suc k) (omega arith)) ∙ next)
+        | inl m ↦ full (k - span.first) (omega arith)
+            (sym (r.inside (k - span.first) k (omega arith) (omega arith)) ∙ free)
+        | inr m ↦ pool.continued (suc k) (sym (r.above k m) ∙ free)
+            (sym (r.above (suc k) (omega arith)) ∙ next)
       ]
     ]
 
 -- the span's new marks have no next frame, and there is none after it
-given_step : (old new : List Mark) (span : Span) (others : List Mark) → IsPool old → Replaces old new span others → 1 ≤ span.frames → ((k : ℕ) → k < span.frames → slice_get others k ≢ Some mark.Next) → slice_get old (end_of span) ≢ Some mark.Next → (k : ℕ) → slice_get new k ≡ Some mark.Free → slice_get new (suc k) ≢ Some mark.Next
+given_step : (old new : List Mark) (span : Span) (others : List Mark) → IsPool old
+    → Replaces old new span others → 1 ≤ span.frames
+    → ((k : ℕ) → k < span.frames → slice_get others k ≢ Some mark.Next)
+    → slice_get old (end_of span) ≢ Some mark.Next → (k : ℕ) → slice_get new k ≡ Some mark.Free
+    → slice_get new (suc k) ≢ Some mark.Next
 given_step old new span others pool r some none ends k free next =
     elim (cases_lt (suc k) span.first) [
-      | inl l ↦ pool.continued (suc k) (sym (r.below k (omega arith)) ∙ free) (sym (r.below (suc k) l) ∙ next)
+      | inl l ↦ pool.continued (suc k) (sym (r.below k (omega arith)) ∙ free)
+          (sym (r.below (suc k) l) ∙ next)
       | inr l ↦ elim (cases_lt (suc k) (end_of span)) [
-        | inl m ↦ none (suc k - span.first) (omega arith) (sym (r.inside (suc k - span.first) (suc k) (omega arith) (omega arith)) ∙ next)
+        | inl m ↦ none (suc k - span.first) (omega arith)
+            (sym (r.inside (suc k - span.first) (suc k) (omega arith) (omega arith)) ∙ next)
         | inr m ↦ elim (cases_lt k (end_of span)) [
-          | inl b ↦ ends (let e : end_of span ≡ suc k = omega arith in ap (slice_get old) e ∙ sym (r.above (suc k) m) ∙ next)
-          | inr b ↦ pool.continued (suc k) (sym (r.above k b) ∙ free) (sym (r.above (suc k) m) ∙ next)
+          | inl b ↦ ends (let e : end_of span ≡ suc k = omega arith in ap (slice_get old) e
+              ∙ sym (r.above (suc k) m) ∙ next)
+          | inr b ↦ pool.continued (suc k) (sym (r.above k b) ∙ free)
+              (sym (r.above (suc k) m) ∙ next)
         ]
       ]
     ]
 
-continued_from : (marks : List Mark) → slice_get marks 0 ≢ Some mark.Next → ((k : ℕ) → slice_get marks k ≡ Some mark.Free → slice_get marks (suc k) ≢ Some mark.Next) → (k : ℕ) → slice_get (mark.Free ∷ marks) k ≡ Some mark.Free → slice_get marks k ≢ Some mark.Next
+continued_from : (marks : List Mark) → slice_get marks 0 ≢ Some mark.Next
+    → ((k : ℕ) → slice_get marks k ≡ Some mark.Free → slice_get marks (suc k) ≢ Some mark.Next)
+    → (k : ℕ) → slice_get (mark.Free ∷ marks) k ≡ Some mark.Free
+    → slice_get marks k ≢ Some mark.Next
 continued_from marks first step zero free = first
 continued_from marks first step (suc k) free = step k free
 
@@ -57,9 +79,11 @@ continued_from marks first step (suc k) free = step k free
 marks_of-begins : (span : Span) → slice_get (marks_of span) 0 ≢ Some mark.Next
 marks_of-begins span e = first_mark-next span.purpose cc
 
-marks_of-free : (span : Span) (k : ℕ) → k < span.frames → slice_get (marks_of span) k ≢ Some mark.Free
+marks_of-free : (span : Span) (k : ℕ) → k < span.frames
+    → slice_get (marks_of span) k ≢ Some mark.Free
 marks_of-free span zero h e = first_mark-free span.purpose cc
-marks_of-free span (suc k) h e = let n = slice_get-replicate (span.frames - 1) mark.Next k (omega arith) in cc
+marks_of-free span (suc k) h e = let n =
+    slice_get-replicate (span.frames - 1) mark.Next k (omega arith) in cc
 
 free-next : (n k : ℕ) → k < n → slice_get (replicate n mark.Free) k ≢ Some mark.Next
 free-next n k h e = let f = slice_get-replicate n mark.Free k h in cc
@@ -70,10 +94,13 @@ free-next n k h e = let f = slice_get-replicate n mark.Free k h in cc
 abbrev pub AreFree : List Mark → Span → Type 0
 AreFree marks span = (k : ℕ) → span.first ≤ k → k < end_of span → slice_get marks k ≡ Some mark.Free
 
-taken_is : (marks : List Mark) (span : Span) → 1 ≤ span.frames → end_of span ≤ length marks → Replaces marks (with_span marks span) span (marks_of span)
-taken_is marks span some within = replaces-replaced marks span (marks_of span) within (length-marks_of span some)
+taken_is : (marks : List Mark) (span : Span) → 1 ≤ span.frames → end_of span ≤ length marks
+    → Replaces marks (with_span marks span) span (marks_of span)
+taken_is marks span some within =
+    replaces-with_marks marks span (marks_of span) within (length-marks_of span some)
 
-pub pool-with_span : (marks : List Mark) (span : Span) (align : ℕ) → 1 ≤ span.frames → IsPlace marks span.frames align span.first → IsPool marks → IsPool (with_span marks span)
+pub pool-with_span : (marks : List Mark) (span : Span) (align : ℕ) → 1 ≤ span.frames
+    → IsPlace marks span.frames align span.first → IsPool marks → IsPool (with_span marks span)
 pool-with_span marks span align some place pool =
     let r = taken_is marks span some (within-place marks span.frames align span.first some place) in
     let begins = marks_of-begins span in
@@ -81,16 +108,20 @@ pool-with_span marks span align some place pool =
       size = (let l = r.long in let s = pool.size in omega arith);
       continued = continued_from (with_span marks span)
           (first_frame marks (with_span marks span) span (marks_of span) pool r some begins)
-          (taken_step marks (with_span marks span) span (marks_of span) pool r some begins (marks_of-free span));
+          (taken_step marks (with_span marks span) span (marks_of span) pool r some begins
+          (marks_of-free span));
     }
 
 -- after free frames of a pool stands no next frame
-end-free : (marks : List Mark) (span : Span) → 1 ≤ span.frames → AreFree marks span → IsPool marks → slice_get marks (end_of span) ≢ Some mark.Next
+end-free : (marks : List Mark) (span : Span) → 1 ≤ span.frames → AreFree marks span → IsPool marks
+    → slice_get marks (end_of span) ≢ Some mark.Next
 end-free marks span some free pool next =
     let last : suc (end_of span - 1) ≡ end_of span = omega arith in
-    pool.continued (suc (end_of span - 1)) (free (end_of span - 1) (omega arith) (omega arith)) (ap (slice_get marks) last ∙ next)
+    pool.continued (suc (end_of span - 1)) (free (end_of span - 1) (omega arith) (omega arith))
+    (ap (slice_get marks) last ∙ next)
 
-pub held-with_span : (marks : List Mark) (span : Span) (align : ℕ) → 1 ≤ span.frames → IsPlace marks span.frames align span.first → IsPool marks → Holds (with_span marks span) span
+pub held-with_span : (marks : List Mark) (span : Span) (align : ℕ) → 1 ≤ span.frames
+    → IsPlace marks span.frames align span.first → IsPool marks → Holds (with_span marks span) span
 held-with_span marks span align some place pool =
     let within = within-place marks span.frames align span.first some place in
     let r = taken_is marks span some within in
@@ -106,11 +137,16 @@ held-with_span marks span align some place pool =
           (sym (r.above (end_of span) (omega arith)) ∙ next);
     })
 
-pub apart-with_span : (marks : List Mark) (span : Span) (align : ℕ) → 1 ≤ span.frames → IsPlace marks span.frames align span.first → (other : Span) → Holds marks other → IsDisjoint span other
+pub apart-with_span : (marks : List Mark) (span : Span) (align : ℕ) → 1 ≤ span.frames
+    → IsPlace marks span.frames align span.first → (other : Span) → Holds marks other
+    → IsDisjoint span other
 apart-with_span marks span align some place other held =
-    apart_from_free marks span other some (free-place marks span.frames align span.first place) (stands-from_held marks other held)
+    apart_from_free marks span other some (free-place marks span.frames align span.first place)
+    (stands-from_held marks other held)
 
-pub others-with_span : (marks : List Mark) (span : Span) (align : ℕ) → 1 ≤ span.frames → IsPlace marks span.frames align span.first → (other : Span) → Holds marks other → Holds (with_span marks span) other
+pub others-with_span : (marks : List Mark) (span : Span) (align : ℕ) → 1 ≤ span.frames
+    → IsPlace marks span.frames align span.first → (other : Span) → Holds marks other
+    → Holds (with_span marks span) other
 others-with_span marks span align some place other held =
     held-apart marks (with_span marks span) span (marks_of span)
     (taken_is marks span some (within-place marks span.frames align span.first some place))
@@ -118,31 +154,44 @@ others-with_span marks span align some place other held =
 
 -- a span given back
 
-given_is : (marks : List Mark) (span : Span) → Holds marks span → Replaces marks (without_span marks span) span (replicate span.frames mark.Free)
+given_is : (marks : List Mark) (span : Span) → Holds marks span
+    → Replaces marks (without_span marks span) span (replicate span.frames mark.Free)
 given_is marks span held =
-    replaces-replaced marks span (replicate span.frames mark.Free) (stands-from_held marks span held).within (length-replicate span.frames mark.Free)
+    replaces-with_marks marks span (replicate span.frames mark.Free)
+    (stands-from_held marks span held).within (length-replicate span.frames mark.Free)
 
-pub pool-without_span : (marks : List Mark) (span : Span) → Holds marks span → IsPool marks → IsPool (without_span marks span)
+pub pool-without_span : (marks : List Mark) (span : Span) → Holds marks span → IsPool marks
+    → IsPool (without_span marks span)
 pool-without_span marks span held pool =
     let r = given_is marks span held in
     let none = free-next span.frames in
     record {
       size = (let l = r.long in let s = pool.size in omega arith);
       continued = continued_from (without_span marks span)
-          (first_frame marks (without_span marks span) span (replicate span.frames mark.Free) pool r held.some (none 0 held.some))
-          (given_step marks (without_span marks span) span (replicate span.frames mark.Free) pool r held.some none held.ends);
+          (first_frame marks (without_span marks span) span (replicate span.frames mark.Free) pool r
+          held.some (none 0 held.some))
+          (given_step marks (without_span marks span) span (replicate span.frames mark.Free) pool r
+          held.some none held.ends);
     }
 
-pub others-without_span : (marks : List Mark) (span : Span) → Holds marks span → (other : Span) → Holds marks other → other ≢ span → Holds (without_span marks span) other
+pub others-without_span : (marks : List Mark) (span : Span) → Holds marks span → (other : Span)
+    → Holds marks other → other ≢ span → Holds (without_span marks span) other
 others-without_span marks span held other h differs =
     elim (held_apart marks span other held h) [
       | inl e ↦ absurd (differs (sym e))
-      | inr d ↦ held-apart marks (without_span marks span) span (replicate span.frames mark.Free) (given_is marks span held) held.some (free-next span.frames 0 held.some) other h d
+      | inr d ↦ held-apart marks (without_span marks span) span (replicate span.frames mark.Free)
+          (given_is marks span held) held.some (free-next span.frames 0 held.some) other h d
     ]
 
 -- every frame of a new pool is free
 pub pool-replicate : (n : ℕ) → n < 2 ^ 32 → IsPool (replicate n mark.Free)
 pool-replicate n h = record {
   size = omega (arith, length-replicate n mark.Free);
-  continued = λ k free next. free-next n k (omega (arith, slice_get_within (replicate n mark.Free) k mark.Next next, length-replicate n mark.Free)) next;
+  continued = λ k free next. free-next n k
+      (omega (
+        arith,
+        slice_get_within (replicate n mark.Free) k mark.Next next,
+        length-replicate n
+            mark.Free,
+      )) next;
 }

@@ -1,5 +1,6 @@
 -- The marks of a pool's frames.
-use Rattle.std.specs.Prelude.{◌≡◌, ◌≢◌, ℕ, ◌<◌, ◌^◌, List, ◌∷◌, length, Bool, true, false, not, count_by, slice_get, Some, IsSomeAnd}
+use Rattle.std.specs.Prelude.{◌≡◌, ◌≢◌, ℕ, ◌<◌, ◌^◌, List, ◌∷◌, length, Bool, true, false, not}
+use Rattle.std.specs.Prelude.{count_by, slice_get, Some, IsSomeAnd}
 use Rattle.region_pool.specs.declared.mark.Mark.{Mark}
 use Rattle.region_pool.specs.declared.mark.Mark.TheVariants.{Free, Next}
 
@@ -16,7 +17,9 @@ IsTaken marks frame = IsSomeAnd (slice_get marks frame) (λ mark. mark ≢ Free)
 abbrev pub taken_count : List Mark → ℕ
 taken_count marks = count_by (λ mark. not (is_free mark)) marks
 
--- what is true of every pool: each frame has a number of 32 bits, and no next frame stands first or after a free one
+-- what is true of every pool: each frame has a number of 32 bits, and no next frame stands first or
+-- after a free one
 pub record IsPool (marks : List Mark) : Type 0 where
   pub size : length marks < 2 ^ 32
-  pub continued : (frame : ℕ) → slice_get (Free ∷ marks) frame ≡ Some Free → slice_get marks frame ≢ Some Next
+  pub continued : (frame : ℕ) → slice_get (Free ∷ marks) frame ≡ Some Free
+      → slice_get marks frame ≢ Some Next

@@ -1,5 +1,6 @@
 -- Where a span may begin, and where it does: at the lowest place.
-use Rattle.std.specs.Prelude.{◌≡◌, ℕ, ◌≤◌, ◌%◌, List, length, replicate, Bool, ◌&&◌, ◌==◌, Option, find}
+use Rattle.std.specs.Prelude.{◌≡◌, ℕ, ◌≤◌, ◌%◌, List, length, replicate, Bool, ◌&&◌, ◌==◌, Option}
+use Rattle.std.specs.Prelude.{find}
 use Rattle.std.specs.List.{list_all, range_with_len}
 use Rattle.region_pool.specs.Marks.{is_free}
 use Rattle.region_pool.specs.Spans.{marks_at}

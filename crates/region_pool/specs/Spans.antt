@@ -1,11 +1,12 @@
 -- Spans of frames, and what it means that a pool holds one.
-use Rattle.std.specs.Prelude.{◌≡◌, ◌≢◌, ◌⊎◌, ℕ, ◌+◌, ◌-◌, ◌<◌, ◌≤◌, List, ◌∷◌, ◌++◌, take, drop, replicate, slice_get, Some}
+use Rattle.std.specs.Prelude.{◌≡◌, ◌≢◌, ◌⊎◌, ℕ, ◌+◌, ◌-◌, ◌<◌, ◌≤◌, List, ◌∷◌, ◌++◌, take, drop}
+use Rattle.std.specs.Prelude.{replicate, slice_get, Some}
 use Rattle.region_pool.specs.declared.mark.Mark.{Mark}
 use Rattle.region_pool.specs.declared.mark.Mark.TheVariants as mark
 use Rattle.region_pool.specs.declared.ticket.Purpose.{Purpose}
 use Rattle.region_pool.specs.declared.ticket.Purpose.TheVariants as purpose
 
--- a span: its first frame, how many frames it has, and whom it serves
+-- frames in a row that were taken together, and whom they serve
 pub record Span : Type 0 where
   pub first : ℕ
   pub frames : ℕ
@@ -39,16 +40,16 @@ abbrev pub IsDisjoint : Span → Span → Type 0
 IsDisjoint one other = (end_of one ≤ other.first) ⊎ (end_of other ≤ one.first)
 
 -- the marks with others in place of so many from a frame on, and all else as before
-abbrev pub replaced : List Mark → ℕ → ℕ → List Mark → List Mark
-replaced marks first frames others = take first marks ++ others ++ drop (first + frames) marks
+abbrev pub with_marks : List Mark → ℕ → ℕ → List Mark → List Mark
+with_marks marks first frames others = take first marks ++ others ++ drop (first + frames) marks
 
 -- the marks once the span is taken
 abbrev pub with_span : List Mark → Span → List Mark
-with_span marks span = replaced marks span.first span.frames (marks_of span)
+with_span marks span = with_marks marks span.first span.frames (marks_of span)
 
 -- the marks once the span is given back
 abbrev pub without_span : List Mark → Span → List Mark
-without_span marks span = replaced marks span.first span.frames (replicate span.frames mark.Free)
+without_span marks span = with_marks marks span.first span.frames (replicate span.frames mark.Free)
 
 -- the frame is one of the span's
 pub record HasFrame (span : Span) (frame : ℕ) : Type 0 where

@@ -12,6 +12,3 @@ pub use mark::Mark;
 pub use place::place_law;
 pub use pool::{NoMemory, NoRoom, Pool, frame_span_law, held_spans_law};
 pub use ticket::{Purpose, Ticket};
-
-#[cfg(test)]
-mod tests;

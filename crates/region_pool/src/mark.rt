@@ -4,7 +4,7 @@ ghost use Rattle.region_pool.specs.Marks.{is_free};
 
 /// The mark of a frame. The marks of a pool determine its spans: a span is its first frame and the
 /// next frames that follow it.
-#[derive(Clone, Copy, Debug, PartialEq, Eq)]
+#[derive(Clone, Copy)]
 pub enum Mark {
     /// The frame lies in no span.
     Free,

@@ -1,5 +1,6 @@
 //! Where a span fits.
-ghost use Rattle.std.specs.Prelude.{◌≡◌, ℕ, ◌<◌, ◌≤◌, ◌+◌, ◌%◌, ◌^◌, List, length, IfSome, IfNone, MatchOption};
+ghost use Rattle.std.specs.Prelude.{◌≡◌, ℕ, ◌<◌, ◌≤◌, ◌+◌, ◌%◌, ◌^◌, List, length, IfSome, IfNone};
+ghost use Rattle.std.specs.Prelude.{MatchOption};
 ghost use Rattle.region_pool.specs.declared.mark.Mark.{Mark};
 ghost use Rattle.region_pool.specs.Places.{IsLowestPlace, HasNoPlace, place};
 
@@ -40,7 +41,8 @@ pub(crate) fn lowest_place(marks: &[Mark], frames: usize, align: usize) -> Optio
     None
 }
 
-/// The law of the definition `place`: it is the lowest place, and `None` exactly where there is none.
+/// The law of the definition `place`: it is the lowest place, and `None` exactly where there is
+/// none.
 pub fn place_law()
     ensures { (marks : List Mark) (frames align : ℕ) → 1 ≤ frames
         → MatchOption (place marks frames align)

@@ -1,8 +1,11 @@
 //! The pool: it takes spans and gives them back.
-ghost use Rattle.std.specs.Prelude.{◌≡◌, ◌≢◌, ℕ, ◌<◌, ◌≤◌, ◌+◌, ◌-◌, ◌∷◌, ◌^◌, ◌↔◌, ◌⊎◌, List, length, vec_len, replicate, IsTrue, IsErr, IfOk, IfSome, IfNone, OnOk, OnErr};
+ghost use Rattle.std.specs.Prelude.{◌≡◌, ◌≢◌, ℕ, ◌<◌, ◌≤◌, ◌+◌, ◌-◌, ◌∷◌, ◌^◌, ◌↔◌, ◌⊎◌, List};
+ghost use Rattle.std.specs.Prelude.{length, vec_len, replicate, IsTrue, IsErr, IfOk, IfSome};
+ghost use Rattle.std.specs.Prelude.{IfNone, OnOk, OnErr};
 ghost use Rattle.region_pool.specs.Marks.{IsTaken, taken_count};
 ghost use Rattle.region_pool.specs.Places.{IsLowestPlace, HasNoPlace};
-ghost use Rattle.region_pool.specs.Spans.{Span, Holds, IsSpanAt, LiesInOneSpan, first_mark, IsDisjoint, replaced, with_span, without_span};
+ghost use Rattle.region_pool.specs.Spans.{Span, Holds, IsSpanAt, LiesInOneSpan, first_mark};
+ghost use Rattle.region_pool.specs.Spans.{IsDisjoint, with_marks, with_span, without_span};
 
 use crate::extent::{end_of_span, first_of_span};
 use crate::mark::{Mark, is_free};
@@ -12,15 +15,15 @@ use std::alloc::{AllocError, Global};
 use std::marker::Model;
 
 /// There was no memory for the marks.
-#[derive(Clone, Copy, Debug, PartialEq, Eq)]
+#[derive(Clone, Copy)]
 pub struct NoMemory;
 
 /// No multiple of the alignment begins that many free frames.
-#[derive(Clone, Copy, Debug, PartialEq, Eq)]
+#[derive(Clone, Copy)]
 pub struct NoRoom;
 
 /// A pool of frames, numbered from 0. Contracts see the list of their marks.
-#[derive(Debug, Drop)]
+#[derive(Drop)]
 pub struct Pool {
     marks: Vec<Mark>,
 }
@@ -54,7 +57,8 @@ fn mark_span(marks: &mut Vec<Mark>, first: usize, frames: usize, purpose: Purpos
     requires some { 1 ≤ frames }
     requires within { first + frames ≤ vec_len marks.old }
     ensures { marks.new.items
-        ≡ replaced marks.old.items first frames (first_mark purpose ∷ replicate (frames - 1) Mark.Next) }
+        ≡ with_marks marks.old.items first frames
+        (first_mark purpose ∷ replicate (frames - 1) Mark.Next) }
 {
     mark_frames(&mut marks[first..first + frames], purpose);
 }
@@ -63,7 +67,7 @@ fn mark_span(marks: &mut Vec<Mark>, first: usize, frames: usize, purpose: Purpos
 fn free_span(marks: &mut Vec<Mark>, first: usize, frames: usize)
     requires { first + frames ≤ vec_len marks.old }
     ensures { marks.new.items
-        ≡ replaced marks.old.items first frames (replicate frames Mark.Free) }
+        ≡ with_marks marks.old.items first frames (replicate frames Mark.Free) }
 {
     marks[first..first + frames].fill(Mark::Free);
 }
@@ -118,7 +122,8 @@ impl Pool {
         requires { Holds self.old ticket }
         ensures freed { self.new ≡ without_span self.old ticket }
         ensures size { length self.new ≡ length self.old }
-        ensures others_held { (other : Span) → Holds self.old other → other ≢ ticket → Holds self.new other }
+        ensures others_held { (other : Span) → Holds self.old other → other ≢ ticket
+            → Holds self.new other }
     {
         let Ticket {
             first,

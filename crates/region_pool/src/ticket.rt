@@ -4,7 +4,7 @@ ghost use Rattle.std.specs.Prelude.{◌≡◌};
 use std::marker::Model;
 
 /// Whom a span serves.
-#[derive(Clone, Copy, Debug, PartialEq, Eq)]
+#[derive(Clone, Copy)]
 pub enum Purpose {
     /// Everything outside a session.
     Host,
@@ -15,7 +15,6 @@ pub enum Purpose {
 /// A span of frames that was taken from a pool. Only `Pool::take` makes one. It has no `Drop`, so
 /// it has to be given back, by `Pool::give`. Contracts see the span.
 #[must_use]
-#[derive(Debug)]
 pub struct Ticket {
     pub(crate) first: u32,
     pub(crate) frames: u32,

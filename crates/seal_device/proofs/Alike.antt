@@ -1,11 +1,13 @@
--- The homomorphism: on the digests of a device of lists a command does what it does there, and replies the same.
+-- The homomorphism: on the digests of a device of lists a command does what it does there, and
+-- replies the same.
 use Rattle.std.proofs.Common.{◌≡◌, ℕ, List, false, Option, Some, None, refl, sym, ap}
 use Rattle.std.specs.Prelude.{Result, Ok, slice_get}
 use Rattle.std.specs.Option.{option_map}
 use Rattle.std.proofs.lemmas.Option.{slice_get-map}
 use Rattle.std.proofs.lemmas.List.{map-set}
 use Rattle.tpm_state.specs.Chain.{Chain, From, ◌▷◌, value}
-use Rattle.seal_device.specs.Commands.{Command, Measure, Extend, ReadRegister, PowerOn, act, compares, extend, or_refused, launch_start, launch_register}
+use Rattle.seal_device.specs.Commands.{Command, Measure, Extend, ReadRegister, PowerOn, act}
+use Rattle.seal_device.specs.Commands.{compares, extend, or_refused, launch_start, launch_register}
 use Rattle.seal_device.specs.Digests.{DigestDevice, digests}
 use Rattle.seal_device.specs.Ledger.{hashed_by, strings_at}
 use Rattle.seal_device.specs.Lists.{ListDevice, lists}

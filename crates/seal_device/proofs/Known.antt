@@ -1,11 +1,15 @@
 -- The ledger has what a device of lists knows, after each command.
-use Rattle.std.proofs.Common.{◌≡◌, ℕ, List, [], ◌++◌, Option, Some, None, refl, subst, length, ◌<◌, get_or, All, Contains, arith}
+use Rattle.std.proofs.Common.{◌≡◌, ℕ, List, [], ◌++◌, Option, Some, None, refl, subst, length, ◌<◌}
+use Rattle.std.proofs.Common.{get_or, All, Contains, arith}
 use Rattle.std.specs.Prelude.{slice_get}
 use Rattle.std.proofs.lemmas.Option.{slice_get_within, get_or_from_slice_get}
-use Rattle.std.proofs.lemmas.List.Elements.{All-set, All-map, All-append, All-contains_itself, Contains-append_left, Contains-append_right}
+use Rattle.std.proofs.lemmas.List.Elements.{All-set, All-map, All-append, All-contains_itself}
+use Rattle.std.proofs.lemmas.List.Elements.{Contains-append_left, Contains-append_right}
 use Rattle.std.proofs.lemmas.List.{length-set, get_or-set_same}
-use Rattle.tpm_state.specs.Chain.{Start, Chain, From, ◌▷◌, value, start_value, power_start, register_numbers, register_count}
-use Rattle.seal_device.specs.Commands.{Command, Measure, Extend, ReadRegister, PowerOn, act, extend, with_chain, launch_start, launch_register, first_chains}
+use Rattle.tpm_state.specs.Chain.{Start, Chain, From, ◌▷◌, value, start_value, power_start}
+use Rattle.tpm_state.specs.Chain.{register_numbers, register_count}
+use Rattle.seal_device.specs.Commands.{Command, Measure, Extend, ReadRegister, PowerOn, act, extend}
+use Rattle.seal_device.specs.Commands.{with_chain, launch_start, launch_register, first_chains}
 use Rattle.seal_device.specs.Ledger.{Ledger, ledger_after, hashed_by, strings_to_extend, strings_at}
 use Rattle.seal_device.specs.Lists.{ListDevice, lists}
 use Rattle.seal_device.specs.Agreement.{Knows, Noted, strings}
@@ -30,7 +34,9 @@ still_hashed h more chain known = λ k d l. Contains-append_left h more _ (known
 still_noted : (d : ListDevice) (ledger : Ledger) (more : List (List ℕ)) → Noted d ledger →
     Noted d (with_more ledger more)
 still_noted d ledger more noted =
-    record { chains = λ k e l. still_hashed ledger.hashed more (get_or d.chains k e) (noted.chains k e l) }
+    record {
+      chains = λ k e l. still_hashed ledger.hashed more (get_or d.chains k e) (noted.chains k e l);
+    }
 
 -- a chain of which all is known comes into a register
 chain_noted : (d : ListDevice) (ledger : Ledger) (r : ℕ) (chain : Chain) → Noted d ledger →
@@ -68,7 +74,8 @@ extend_noted r text d ledger noted = by_chain (slice_get d.chains r) refl where
       let more = strings_to_extend (value chain) text in
       let at = get_or_from_slice_get d.chains r chain chain is in
       let known : Hashed ledger.hashed chain =
-      subst (Hashed ledger.hashed) at (noted.chains r chain (slice_get_within d.chains r chain is)) in
+      subst (Hashed ledger.hashed) at
+      (noted.chains r chain (slice_get_within d.chains r chain is)) in
       chain_noted d (with_more ledger more) r (chain ▷ text) (still_noted d ledger more noted)
       (one_more ledger.hashed chain text known)
 
@@ -102,7 +109,8 @@ last_known d r chain text there = λ k e l.
 -- what a command hashes the device knows after it
 pub known_after : (c : Command) (d : ListDevice) → length d.chains ≡ register_count →
     All (Knows (act lists c d).0) (hashed_by lists c d)
-known_after (Measure image) d count = last_known d launch_register (From launch_start) image (omega arith)
+known_after (Measure image) d count =
+    last_known d launch_register (From launch_start) image (omega arith)
 known_after (Extend r text) d count = by_chain (slice_get d.chains r) refl where
   by_chain : (o : Option Chain) → slice_get d.chains r ≡ o →
       All (Knows (extend lists r text d o).0) (strings_at lists text o)

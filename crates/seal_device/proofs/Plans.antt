@@ -1,8 +1,10 @@
 -- The law of one command, and of plans with a fuse.
-use Rattle.std.proofs.Common.{◌≡◌, ℕ, List, [], ◌++◌, true, false, Option, refl, sym, ◌∙◌, ap, subst}
+use Rattle.std.proofs.Common.{◌≡◌, ℕ, List, [], ◌++◌, true, false, Option, refl, sym, ◌∙◌, ap}
+use Rattle.std.proofs.Common.{subst}
 use Rattle.std.specs.Prelude.{⊤}
 use Rattle.flk_base.specs.Plan.{Plan, run, EndAlike, AnswerAlike}
-use Rattle.flk_base.specs.PlanLaws.{plans_alike, plans_keep, always_throughout, only-throughout, throughout_both, throughout_from_end}
+use Rattle.flk_base.specs.PlanLaws.{plans_alike, plans_keep, always_throughout, only-throughout}
+use Rattle.flk_base.specs.PlanLaws.{throughout_both, throughout_from_end}
 use Rattle.flk_base.specs.Stop.{Limit, limited, Fused, with_fuse, end_of, fused}
 use Rattle.flk_base.specs.StopLaws.{only-limited}
 use Rattle.std.proofs.lemmas.List.Elements.{Contains-append_left}
@@ -11,7 +13,8 @@ use Rattle.seal_device.specs.Commands.{Command, Reply, act, blank, compares, cos
 use Rattle.seal_device.specs.Digests.{DigestDevice, digests, on_device}
 use Rattle.seal_device.specs.Ledger.{Ledger, no_ledger, Clean, Fair, noted, hashed_by}
 use Rattle.seal_device.specs.Lists.{ListDevice, lists}
-use Rattle.seal_device.specs.Agreement.{digested, fused_digested, end_digested, Noted, Agrees, FusedAgree, FairPlan, ComparesNothing}
+use Rattle.seal_device.specs.Agreement.{digested, fused_digested, end_digested, Noted, Agrees}
+use Rattle.seal_device.specs.Agreement.{FusedAgree, FairPlan, ComparesNothing}
 use Rattle.seal_device.proofs.Alike.{Alike, alike, hashed_alike}
 use Rattle.seal_device.proofs.Known.{with_more, stays_noted, blank_noted}
 
@@ -24,8 +27,10 @@ StandsFor d e = digested d ≡ e
 -- the law of one command that compares nothing
 alike_law : AnswerAlike (act lists) (act digests) (λ c e. compares c ≡ false) StandsFor
 alike_law c d e nothing same =
-    subst (λ (e : DigestDevice). EndAlike StandsFor (act lists c d) (act digests c e)) same
-    (ap (λ (end : DigestDevice × Reply c). end.0) (sym at), ap (λ (end : DigestDevice × Reply c). end.1) (sym at)) where
+    subst (λ (e : DigestDevice). EndAlike StandsFor (act lists c d) (act digests c e)) same (
+      ap (λ (end : DigestDevice × Reply c). end.0) (sym at),
+      ap (λ (end : DigestDevice × Reply c). end.1) (sym at),
+    ) where
       at : Alike c d
       at = alike c d nothing
 
@@ -49,20 +54,23 @@ digested_plan plan before nothing =
     let d = before.state in
     let only = only-limited costs (λ c. compares c ≡ false) plan before.fuse nothing in
     let both = plans_alike (act lists) (act digests) (λ c e. compares c ≡ false) StandsFor alike_law
-    short d (digested d) (only-throughout (act digests) (λ c. compares c ≡ false) short (digested d) only) refl in
+    short d (digested d)
+    (only-throughout (act digests) (λ c. compares c ≡ false) short (digested d) only) refl in
     one_end plan before both
 
 -- ---- fair plans
 
 -- a command that is fair is answered alike: none compares
-fair_alike : (c : Command) (d : ListDevice) (ledger : Ledger) → Fair digests c (digested d, ledger) →
+fair_alike : (c : Command) (d : ListDevice) (ledger : Ledger) →
+    Fair digests c (digested d, ledger) →
     Noted d ledger → Alike c d
 fair_alike c d ledger fair noted = alike c d refl
 
 -- the law of one command: where it is fair it is answered alike, and agreement is kept
 fair_law : AnswerAlike (noted lists) (noted digests) (Fair digests) Agrees
 fair_law c w v fair agree =
-    let same = ap (λ (e : DigestDevice). let one : DigestDevice × Ledger = (e, w.1) in one) agree.device
+    let same = ap (λ (e : DigestDevice). let one : DigestDevice × Ledger = (e, w.1) in one)
+    agree.device
     ∙ ap (λ (ledger : Ledger). (v.0, ledger)) agree.ledger in
     subst (λ (v : DigestDevice × Ledger).
     Fair digests c v → EndAlike Agrees (noted lists c w) (noted digests c v)) same at fair where
@@ -98,7 +106,8 @@ fair_plan {X} plan fuse w v fair agree =
     )
 
 -- a ledger changes nothing else
-unnoted : {H X : Type 0} (R : Rules H) (plan : Plan Command Reply X) (d : Device H) (ledger : Ledger) →
+unnoted : {H X : Type 0} (R : Rules H) (plan : Plan Command Reply X) (d : Device H)
+    (ledger : Ledger) →
     EndAlike (λ w e. w.0 ≡ e) (run (noted R) plan (d, ledger)) (run (act R) plan d)
 unnoted {H} R plan d ledger =
     plans_alike (noted R) (act R) (λ c e. ⊤) (λ w e. w.0 ≡ e)
@@ -167,7 +176,8 @@ clean_plan plan before clean =
 
 -- from devices that were never used
 pub clean_digested : {X : Type 0} (plan : Plan Command Reply X) (fuse : Limit) →
-    Clean (fused costs (noted digests) plan (with_fuse (blank digests, no_ledger) fuse)).0.state.1.hashed →
+    Clean (fused costs (noted digests) plan
+    (with_fuse (blank digests, no_ledger) fuse)).0.state.1.hashed →
     on_device plan (with_fuse (blank digests) fuse)
     ≡ end_digested (fused costs (act lists) plan (with_fuse (blank lists) fuse))
 clean_digested plan fuse clean =

@@ -2,18 +2,20 @@
 use Rattle.std.proofs.Common.{◌≡◌, ℕ, ◌<◌, List, [], length, get_or, refl, ◌∙◌, ap}
 use Rattle.std.specs.Prelude.{Option, Some, None, slice_get, slice_set}
 use Rattle.std.proofs.lemmas.List.{set-set, get_or-set_same, length-set}
-use Rattle.tpm_state.specs.Chain.{extended, register_count}
+use Rattle.tpm_state.specs.Chain.{extended_value, register_count}
 use Rattle.seal_device.specs.Rules.{Device, Rules}
-use Rattle.seal_device.specs.Commands.{Command, Measure, Extend, ReadRegister, PowerOn, act, extend, launch_register, launch_start}
+use Rattle.seal_device.specs.Commands.{Command, Measure, Extend, ReadRegister, PowerOn, act, extend}
+use Rattle.seal_device.specs.Commands.{launch_register, launch_start}
 
 -- a register that is set, and extended then
 pub extended_anew : (values : List (List ℕ)) (r : ℕ) (start text : List ℕ) → r < length values →
-    slice_set (slice_set values r start) r (extended (get_or (slice_set values r start) r []) text)
-    ≡ slice_set values r (extended start text)
+    slice_set (slice_set values r start) r
+    (extended_value (get_or (slice_set values r start) r []) text)
+    ≡ slice_set values r (extended_value start text)
 extended_anew values r start text there =
-    ap (λ value. slice_set (slice_set values r start) r (extended value text))
+    ap (λ value. slice_set (slice_set values r start) r (extended_value value text))
     (get_or-set_same values r start [] there)
-    ∙ set-set values r start (extended start text)
+    ∙ set-set values r start (extended_value start text)
 
 -- a command leaves as many registers as there were
 pub count_kept : {H : Type 0} (R : Rules H) (c : Command) (d : Device H) →

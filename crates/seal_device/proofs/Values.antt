@@ -1,6 +1,8 @@
--- Values tell chains apart where the strings that were hashed for them are clean.
-use Rattle.std.proofs.Common.{◌≡◌, ℕ, List, [], ◌∷◌, ◌++◌, length, get_or, refl, sym, ◌∙◌, Contains, arith}
-use Rattle.std.proofs.lemmas.List.Elements.{All-contains, All-contains_itself, Contains-append_left, Contains-append_right}
+-- Where the strings that were hashed for them are clean, chains that show one value are one.
+use Rattle.std.proofs.Common.{◌≡◌, ℕ, List, [], ◌∷◌, ◌++◌, length, get_or, refl, sym, ◌∙◌, Contains}
+use Rattle.std.proofs.Common.{arith}
+use Rattle.std.proofs.lemmas.List.Elements.{All-contains, All-contains_itself, Contains-append_left}
+use Rattle.std.proofs.lemmas.List.Elements.{Contains-append_right}
 use Rattle.sha1.specs.Sha1.{sha1, digest_bytes}
 use Rattle.tpm_state.specs.Chain.{Start, Zeros, Ones, Chain, From, ◌▷◌, value, start_value}
 use Rattle.seal_device.specs.Ledger.{Clean, strings_to_extend}
@@ -30,23 +32,28 @@ same_parts (c ∷ a) (d ∷ b) x y long same =
     (first, rest.1)
 
 -- the last text of a chain was hashed, and so was the value before it with the text's digest
-text_hashed : (h : List (List ℕ)) (chain : Chain) (text : List ℕ) → Hashed h (chain ▷ text) → Contains h text
+text_hashed : (h : List (List ℕ)) (chain : Chain) (text : List ℕ) → Hashed h (chain ▷ text)
+    → Contains h text
 text_hashed h chain text known =
     All-contains (Contains h) (strings (chain ▷ text)) text known
-    (Contains-append_right (strings chain) (strings_to_extend (value chain) text) text (0, omega arith, refl))
+    (Contains-append_right (strings chain) (strings_to_extend (value chain) text) text
+    (0, omega arith, refl))
 
 joined_hashed : (h : List (List ℕ)) (chain : Chain) (text : List ℕ) → Hashed h (chain ▷ text) →
     Contains h (value chain ++ sha1 text)
 joined_hashed h chain text known =
     All-contains (Contains h) (strings (chain ▷ text)) (value chain ++ sha1 text) known
-    (Contains-append_right (strings chain) (strings_to_extend (value chain) text) (value chain ++ sha1 text)
+    (Contains-append_right (strings chain) (strings_to_extend (value chain) text)
+    (value chain ++ sha1 text)
     (1, omega arith, refl))
 
 -- the strings of the chain before it were hashed
-before_hashed : (h : List (List ℕ)) (chain : Chain) (text : List ℕ) → Hashed h (chain ▷ text) → Hashed h chain
+before_hashed : (h : List (List ℕ)) (chain : Chain) (text : List ℕ) → Hashed h (chain ▷ text)
+    → Hashed h chain
 before_hashed h chain text known = λ k d l.
     All-contains (Contains h) (strings (chain ▷ text)) (get_or (strings chain) k d) known
-    (Contains-append_left (strings chain) (strings_to_extend (value chain) text) (get_or (strings chain) k d)
+    (Contains-append_left (strings chain) (strings_to_extend (value chain) text)
+    (get_or (strings chain) k d)
     (All-contains_itself (strings chain) k d l))
 
 -- no extended chain shows a start's value
@@ -73,7 +80,9 @@ apart h clean (chain ▷ text) (chain' ▷ text') known too same =
     let parts = same_parts (value chain) (value chain') (sha1 text) (sha1 text')
     (length-value chain ∙ sym (length-value chain')) joined in
     let texts : text ≡ text' =
-    clean.apart text text' (text_hashed h chain text known) (text_hashed h chain' text' too) parts.1 in
+    clean.apart text text' (text_hashed h chain text known) (text_hashed h chain' text' too)
+    parts.1 in
     let chains : chain ≡ chain' =
-    apart h clean chain chain' (before_hashed h chain text known) (before_hashed h chain' text' too) parts.0 in
+    apart h clean chain chain' (before_hashed h chain text known) (before_hashed h chain' text' too)
+    parts.0 in
     cc (texts, chains)

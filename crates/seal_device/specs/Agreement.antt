@@ -37,16 +37,18 @@ Knows d text = (chain : Chain) × Contains d.chains chain × Contains (strings c
 pub record Noted (d : ListDevice) (ledger : Ledger) : Type 0 where
   pub chains : All (λ chain. All (Contains ledger.hashed) (strings chain)) d.chains
 
--- a device of lists stands for one of digests, and they have one ledger, with all that the first knows
+-- a device of lists stands for one of digests, and they have one ledger, with all that the first
+-- knows
 pub record Agrees (w : ListDevice × Ledger) (v : DigestDevice × Ledger) : Type 0 where
   pub device : digested w.0 ≡ v.0
   pub ledger : w.1 ≡ v.1
   pub known : Noted w.0 w.1
 
 -- the two agree so, and as much is left of their fuses
-pub record FusedAgree (a : Fused (ListDevice × Ledger)) (b : Fused (DigestDevice × Ledger)) : Type 0 where
-  pub state : Agrees a.state b.state
-  pub fuse : a.fuse ≡ b.fuse
+pub record FusedAgree (a : Fused (ListDevice × Ledger)) (b : Fused (DigestDevice × Ledger)) : Type 0
+  where
+    pub state : Agrees a.state b.state
+    pub fuse : a.fuse ≡ b.fuse
 
 -- a plan is fair from here on: each command that it gives is fair where it is given
 abbrev pub FairPlan : {X : Type 0} → Plan Command Reply X → DigestDevice × Ledger → Type 0

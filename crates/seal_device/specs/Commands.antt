@@ -1,10 +1,12 @@
 -- The commands of a device and what each does, by the rules of any platform.
-use Rattle.std.specs.Prelude.{ℕ, List, map, Bool, true, false, Option, Some, None, Result, Ok, Err, slice_get, slice_set}
+use Rattle.std.specs.Prelude.{ℕ, List, map, Bool, true, false, Option, Some, None, Result, Ok, Err}
+use Rattle.std.specs.Prelude.{slice_get, slice_set}
 use Rattle.tpm_state.specs.Chain.{Start, Zeros, power_start, register_numbers}
 use Rattle.seal_device.specs.Rules.{Device, Rules}
 use Rattle.seal_device.specs.Refusals.Register as registers
 
--- a command to a device: measure an image, extend a register by a text, read a register; and power-on
+-- a command to a device: measure an image, extend a register by a text, read a register; and
+-- power-on
 pub data Command : Type 0 where
   Measure : (image : List ℕ) → Command
   Extend : (r : ℕ) (text : List ℕ) → Command
@@ -44,8 +46,8 @@ abbrev pub with_chain : {H : Type 0} → Device H → ℕ → H → Device H
 with_chain d r chain = record d { chains = slice_set d.chains r chain }
 
 -- a launched image: register 17 starts anew, and is extended by the image (SKINIT)
-abbrev pub measured : {H : Type 0} → Rules H → List ℕ → Device H → Device H
-measured R image d = with_chain d launch_register (R.extended (R.start launch_start) image)
+abbrev pub with_image : {H : Type 0} → Rules H → List ℕ → Device H → Device H
+with_image R image d = with_chain d launch_register (R.extended (R.start launch_start) image)
 
 -- register r extended by a text, where it has a chain (TPM 1.2, part 3, TPM_Extend)
 abbrev pub extend : {H : Type 0} → Rules H → ℕ → List ℕ → Device H → Option H →
@@ -60,7 +62,7 @@ or_refused refusal show (Some a) = Ok (show a)
 
 -- what a command does to a device, and its reply
 abbrev pub act : {H : Type 0} → Rules H → (c : Command) → Device H → Device H × Reply c
-act R (Measure image) d = (measured R image d, tt)
+act R (Measure image) d = (with_image R image d, tt)
 act R (Extend r text) d = extend R r text d (slice_get d.chains r)
 act R (ReadRegister r) d = (d, or_refused registers.NoRegister R.shown (slice_get d.chains r))
 act R PowerOn d = (record d { chains = first_chains R }, tt)

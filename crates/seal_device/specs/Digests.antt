@@ -1,6 +1,6 @@
 -- The platform of digests: a chain is kept as the 20 bytes that it shows.
 use Rattle.std.specs.Prelude.{ℕ, List, Option}
-use Rattle.tpm_state.specs.Chain.{start_value, extended}
+use Rattle.tpm_state.specs.Chain.{start_value, extended_value}
 use Rattle.flk_base.specs.Plan.{Plan}
 use Rattle.flk_base.specs.Stop.{Fused, fused}
 use Rattle.seal_device.specs.Rules.{Device, Rules}
@@ -12,9 +12,10 @@ DigestDevice = Device (List ℕ)
 
 -- the rules of digests
 abbrev pub digests : Rules (List ℕ)
-digests = record { start = start_value; extended = extended; shown = λ value. value }
+digests = record { start = start_value; extended = extended_value; shown = λ value. value }
 
--- a plan on a device of digests with a fuse: what stands after it, and its value unless power was lost
+-- a plan on a device of digests with a fuse: what stands after it, and its value unless power was
+-- lost
 abbrev pub on_device : {X : Type 0} → Plan Command Reply X → Fused DigestDevice →
     Fused DigestDevice × Option X
 on_device plan before = fused costs (act digests) plan before

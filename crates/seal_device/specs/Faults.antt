@@ -1,4 +1,5 @@
--- The errors of the code's calls: one for each refusal of a command, and one more where the power was lost.
+-- The errors of the code's calls: one for each refusal of a command, and one more where the power
+-- was lost.
 use Rattle.flk_base.specs.declared.fuse.PowerLost.{PowerLost}
 use Rattle.seal_device.specs.Refusals.Register as registers
 use Rattle.seal_device.specs.declared.device.RegisterFault.{RegisterFault}

@@ -1,5 +1,7 @@
--- What a run hashed so far, and when that is enough for a command that compares. One text for all platforms.
-use Rattle.std.specs.Prelude.{◌≡◌, ◌≢◌, ℕ, List, [], ◌∷◌, ◌++◌, Option, Some, None, slice_get, IsTrue, Contains}
+-- What a run hashed so far, and when that is enough for a command that compares. One text for all
+-- platforms.
+use Rattle.std.specs.Prelude.{◌≡◌, ◌≢◌, ℕ, List, [], ◌∷◌, ◌++◌, Option, Some, None, slice_get}
+use Rattle.std.specs.Prelude.{IsTrue, Contains}
 use Rattle.sha1.specs.Sha1.{sha1}
 use Rattle.tpm_state.specs.Chain.{Start, start_value}
 use Rattle.flk_base.specs.Plan.{Machine}

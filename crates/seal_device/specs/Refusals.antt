@@ -1,2 +1,3 @@
--- Why a command is refused, by kinds of command. A loss of power is no reply of a device: it is none of these.
+-- Why a command is refused, by kinds of command. A loss of power is no reply of a device: it is
+-- none of these.
 pub mod Register

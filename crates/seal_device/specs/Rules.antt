@@ -7,7 +7,8 @@ use Rattle.tpm_state.specs.Chain.{Start}
 pub record Device (H : Type 0) : Type 0 where
   pub chains : List H
 
--- the rules of a platform: a chain that begins, a chain with one text more, the 20 bytes that it shows
+-- the rules of a platform: a chain that begins, a chain with one text more, the 20 bytes that it
+-- shows
 pub record Rules (H : Type 0) : Type 0 where
   pub start : Start → H
   pub extended : H → List ℕ → H

@@ -19,8 +19,8 @@ pub enum RegisterFault {
     PowerLost = 5,
 }
 
-/// The device: its 24 registers. Contracts see the device of the platform of digests. A call with a fuse takes
-/// its step first: where the power is lost there, nothing else changes.
+/// The device: its 24 registers. Contracts see the device of the platform of digests. A call with a
+/// fuse takes its step first: where the power is lost there, nothing else changes.
 #[derive(Drop)]
 pub struct Device {
     bank: Bank,
@@ -48,16 +48,16 @@ impl Device {
         }
     }
 
-    /// The power comes back: each register starts anew, 17 to 22 at 20 bytes FF, the others at 20 bytes 00. It takes
-    /// no step.
+    /// The power comes back: each register starts anew, 17 to 22 at 20 bytes FF, the others at 20
+    /// bytes 00. It takes no step.
     pub fn power_cycle(&mut self)
         ensures { self.new ≡ (act digests Command.PowerOn self.old).0 }
     {
         self.bank = Bank::power_on();
     }
 
-    /// Measures an image for a late launch, in one step: register 17 is reset to 20 bytes 00 and extended by the
-    /// image.
+    /// Measures an image for a late launch, in one step: register 17 is reset to 20 bytes 00 and
+    /// extended by the image.
     #[tactic(auto, using(crate::proofs::Registers::extended_anew))]
     pub fn measure(&mut self, image: &[u8], fuse: &mut Fuse) -> Result<(), PowerLost>
         ensures { Ends (or_lost power_lost)
@@ -71,24 +71,24 @@ impl Device {
         Ok(())
     }
 
-    /// Extends register `r` by the text that `front` and `text` are together. Where there is no such register, the
-    /// step is taken all the same, and nothing else changes.
+    /// Extends register `r` by the text that `prefix` and `text` are together. Where there is no
+    /// such register, the step is taken all the same, and nothing else changes.
     pub fn extend(
         &mut self,
         r: u32,
-        front: &[u8],
+        prefix: &[u8],
         text: &[u8],
         fuse: &mut Fuse,
     ) -> Result<(), RegisterFault>
         ensures { Ends (reported register_fault RegisterFault.PowerLost)
-            (on_device (ask (Command.Extend r (front.now ++ text.now)))
+            (on_device (ask (Command.Extend r (prefix.now ++ text.now)))
             (with_fuse self.old fuse.old.left))
             (with_fuse self.new fuse.new.left) result }
     {
         if let Err(PowerLost) = fuse.step() {
             return Err(RegisterFault::PowerLost);
         }
-        match self.bank.extend(r, front, text) {
+        match self.bank.extend(r, prefix, text) {
             Ok(()) => Ok(()),
             Err(NoRegister) => Err(RegisterFault::NoRegister),
         }

@@ -1,18 +1,23 @@
-// Laws of the commands on a device of lists and on one of digests (specs/). Each function does nothing:
-// its clauses are laws, which are proved because they stand here.
-ghost use Rattle.std.specs.Prelude.{◌≡◌, ◌≢◌, ◌<◌, ◌+◌, true, false, List, ℕ, length, Some, None, slice_get, All, Contains};
+// Laws of the commands on a device of lists and on one of digests (specs/). Each function does
+// nothing: its clauses are laws, which are proved because they stand here.
+ghost use Rattle.std.specs.Prelude.{◌≡◌, ◌≢◌, ◌<◌, ◌+◌, true, false, List, ℕ, length, Some, None};
+ghost use Rattle.std.specs.Prelude.{slice_get, All, Contains};
 ghost use Rattle.flk_base.specs.Plan.{Plan, ask, EndAlike};
 ghost use Rattle.flk_base.specs.Stop.{Limit, Fused, with_fuse, limited, fused};
 ghost use Rattle.tpm_state.specs.Chain.{Chain, value, power_start, register_count};
 ghost use Rattle.seal_device.specs.Rules.{Device, Rules};
-ghost use Rattle.seal_device.specs.Commands.{Command, Reply, act, blank, compares, costs, launch_register, launch_start};
+ghost use Rattle.seal_device.specs.Commands.{Command, Reply, act, blank, compares, costs};
+ghost use Rattle.seal_device.specs.Commands.{launch_register, launch_start};
 ghost use Rattle.seal_device.specs.Digests.{DigestDevice, digests, on_device};
 ghost use Rattle.seal_device.specs.Ledger.{Ledger, no_ledger, hashed_by, noted, Clean};
 ghost use Rattle.seal_device.specs.Lists.{ListDevice, lists};
-ghost use Rattle.seal_device.specs.Agreement.{strings, Knows, digested, reply_digested, fused_digested, end_digested, Noted, Agrees, FusedAgree, FairPlan, ComparesNothing};
+ghost use Rattle.seal_device.specs.Agreement.{strings, Knows, digested, reply_digested};
+ghost use Rattle.seal_device.specs.Agreement.{fused_digested, end_digested, Noted, Agrees};
+ghost use Rattle.seal_device.specs.Agreement.{FusedAgree, FairPlan, ComparesNothing};
 
-/// By digests a command that compares nothing does what it does by lists, seen by digests, and replies the same; so
-/// does a plan of such commands, wherever its fuse stops it. A device that was never used is one by digests.
+/// By digests a command that compares nothing does what it does by lists, seen by digests, and
+/// replies the same; so does a plan of such commands, wherever its fuse stops it. A device that was
+/// never used is one by digests.
 pub fn digested_is_a_homomorphism<X>()
     ensures command { (c : Command) (d : ListDevice) → compares c ≡ false →
         act digests c (digested d) ≡ reply_digested (act lists c d) }
@@ -23,8 +28,9 @@ pub fn digested_is_a_homomorphism<X>()
     ensures blank { digested (blank lists) ≡ blank digests }
 {}
 
-/// The ledger has what a device of lists knows after each command, and after each plan, wherever its fuse stops it.
-/// An empty one has what a device knows that was never used. What a command adds to it the device knows after it.
+/// The ledger has what a device of lists knows after each command, and after each plan, wherever
+/// its fuse stops it. An empty one has what a device knows that was never used. What a command adds
+/// to it the device knows after it.
 pub fn ledger_has_what_is_known<X>()
     ensures command { (c : Command) (d : ListDevice) (ledger : Ledger) → Noted d ledger →
         Noted (noted lists c (d, ledger)).0.0 (noted lists c (d, ledger)).0.1 }
@@ -37,8 +43,9 @@ pub fn ledger_has_what_is_known<X>()
         All (Knows (act lists c d).0) (hashed_by lists c d) }
 {}
 
-/// From devices that agree, a plan that is fair as far as its fuse lets it run ends alike on both: they agree, with
-/// one ledger and as much left of the fuse, and the value is one. A plan that is fair as a whole is fair so far, and one that compares nothing is fair.
+/// From devices that agree, a plan that is fair as far as its fuse lets it run ends alike on both:
+/// they agree, with one ledger and as much left of the fuse, and the value is one. A plan that is
+/// fair as a whole is fair so far, and one that compares nothing is fair.
 pub fn fair_plans_agree<X>()
     ensures ledgers { (plan : Plan Command Reply X) (fuse : Limit)
         (w : ListDevice × Ledger) (v : DigestDevice × Ledger) →
@@ -56,8 +63,9 @@ pub fn fair_plans_agree<X>()
         ComparesNothing plan → FairPlan plan v }
 {}
 
-/// A plan is fair as far as its fuse lets it run, if what was hashed is clean where it ends. So from devices that were
-/// never used it does by digests what it does by lists, if all that was hashed by digests is clean.
+/// A plan is fair as far as its fuse lets it run, if what was hashed is clean where it ends. So
+/// from devices that were never used it does by digests what it does by lists, if all that was
+/// hashed by digests is clean.
 pub fn clean_runs_agree<X>()
     ensures fair { (plan : Plan Command Reply X) (before : Fused (DigestDevice × Ledger)) →
         Clean (fused costs (noted digests) plan before).0.state.1.hashed →
@@ -69,8 +77,8 @@ pub fn clean_runs_agree<X>()
         ≡ end_digested (fused costs (act lists) plan (with_fuse (blank lists) fuse)) }
 {}
 
-/// Where strings that were hashed for two chains are clean, the chains show one value only if they are one: so it is in
-/// a device of lists whose ledger is clean.
+/// Where strings that were hashed for two chains are clean, the chains show one value only if they
+/// are one: so it is in a device of lists whose ledger is clean.
 pub fn clean_values_are_apart()
     ensures chains { (hashed : List (List ℕ)) (one other : Chain) → Clean hashed →
         All (Contains hashed) (strings one) → All (Contains hashed) (strings other) →
@@ -81,9 +89,10 @@ pub fn clean_values_are_apart()
         value one ≡ value other → one ≡ other }
 {}
 
-/// What commands do to the registers, by the rules of any platform. At power-on the chains are those of a device that
-/// was never used. A launch leaves register 17 the launch's start, extended by the image; an extend leaves register r
-/// extended by the text; and both leave every other register as it was. There are always 24.
+/// What commands do to the registers, by the rules of any platform. At power-on the chains are
+/// those of a device that was never used. A launch leaves register 17 the launch's start, extended
+/// by the image; an extend leaves register r extended by the text; and both leave every other
+/// register as it was. There are always 24.
 pub fn commands_by_registers<H>()
     ensures blank { (R : Rules H) (r : ℕ) → r < register_count →
         slice_get (blank R).chains r ≡ Some (R.start (power_start r)) }
@@ -106,8 +115,9 @@ pub fn commands_by_registers<H>()
         length d.chains ≡ register_count → length (act R c d).0.chains ≡ register_count }
 {}
 
-/// A command that costs nothing, as power-on, takes nothing from the fuse and is done at any. Each other command takes a
-/// step; where the fuse has none left the power is lost before it, and nothing changes.
+/// A command that costs nothing, as power-on, takes nothing from the fuse and is done at any. Each
+/// other command takes a step; where the fuse has none left the power is lost before it, and
+/// nothing changes.
 pub fn commands_and_the_fuse()
     ensures power_on { costs Command.PowerOn ≡ false }
     ensures free { (c : Command) (before : Fused DigestDevice) → costs c ≡ false →

@@ -1,11 +1,9 @@
-//! The device of a platform: its registers, the commands that change and read them, and the law that keeping
-//! digests of what was hashed answers as keeping all of it does.
+//! The device of a platform: its registers, the commands that change and read them, and the law
+//! that keeping digests of what was hashed answers as keeping all of it does.
 #![tactic(auto)]
 
 mod device;
 mod laws;
-#[cfg(test)]
-mod tests;
 
 pub use device::{Device, RegisterFault};
 pub use laws::{

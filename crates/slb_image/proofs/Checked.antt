@@ -1,10 +1,14 @@
 -- What it says of bytes that they pass the checks.
-use Rattle.std.proofs.Common.{◌≡◌, ℕ, zero, suc, ◌<◌, ◌≤◌, Bool, true, false, cond, eqb, leb, ltb, ◌||◌, inl, inr, List, length, replicate, Option, Some, None, refl, arith}
+use Rattle.std.proofs.Common.{◌≡◌, ℕ, zero, suc, ◌<◌, ◌≤◌, Bool, true, false, cond, eqb, leb, ltb}
+use Rattle.std.proofs.Common.{◌||◌, inl, inr, List, length, replicate, Option, Some, None, refl}
+use Rattle.std.proofs.Common.{arith}
 use Rattle.std.specs.Prelude.{codes, bytes_eq}
-use Rattle.std.proofs.lemmas.Bool.{and_parts, or_cases, leb-true, le-leb, ltb-true, lt-ltb, eqb-true, eq-eqb}
+use Rattle.std.proofs.lemmas.Bool.{and_parts, or_cases, leb-true, le-leb, ltb-true, lt-ltb}
+use Rattle.std.proofs.lemmas.Bool.{eqb-true, eq-eqb}
 use Rattle.std.proofs.lemmas.Slice.Eq.{bytes_eq-Decides}
 use Rattle.slb_image.specs.declared.fault.ImageFault.{ImageFault}
-use Rattle.slb_image.specs.Fields.{entry_field, length_field, mark_field, version_field, flags_field, budget_field, reserved_field}
+use Rattle.slb_image.specs.Fields.{entry_field, length_field, mark_field, version_field}
+use Rattle.slb_image.specs.Fields.{flags_field, budget_field, reserved_field}
 use Rattle.slb_image.specs.Faults.{image_fault}
 
 -- the checks of an image, as facts
@@ -13,7 +17,7 @@ pub record Passes (bytes : List ℕ) : Type 0 where
   pub some : 33 ≤ length_field bytes
   pub most : length_field bytes ≤ 49152
   pub whole : length_field bytes ≡ length bytes
-  pub behind : 32 ≤ entry_field bytes
+  pub after : 32 ≤ entry_field bytes
   pub inside : entry_field bytes < length_field bytes
   pub marked : mark_field bytes ≡ codes "FLKC"
   pub first : version_field bytes ≡ 1
@@ -22,10 +26,11 @@ pub record Passes (bytes : List ℕ) : Type 0 where
   pub bounded : budget_field bytes ≤ 1000000
   pub zeros : reserved_field bytes ≡ replicate 16 0
 
--- no check failed: neither the first nor one behind it
-pub passed : (test : Bool) (behind : Option ImageFault) (fault : ImageFault) → cond test behind (Some fault) ≡ None → (test ≡ true) × (behind ≡ None)
-passed true behind fault e = (refl, e)
-passed false behind fault e = absurd (cc)
+-- no check failed: neither the first nor one after it
+pub passed : (test : Bool) (after : Option ImageFault) (fault : ImageFault)
+    → cond test after (Some fault) ≡ None → (test ≡ true) × (after ≡ None)
+passed true after fault e = (refl, e)
+passed false after fault e = absurd (cc)
 
 -- the test of the flags says that they are at most 1
 job_or_not : (n : ℕ) → (eqb n 0 || eqb n 1) ≡ true → n ≤ 1
@@ -61,7 +66,7 @@ passes bytes e =
       some = leb-true _ _ bounds.0;
       most = leb-true _ _ bounds.1;
       whole = eqb-true _ _ lengths.1;
-      behind = leb-true _ _ entries.0;
+      after = leb-true _ _ entries.0;
       inside = ltb-true _ _ entries.1;
       marked = (bytes_eq-Decides _ _).0 mark.0;
       first = eqb-true _ _ version.0;
@@ -79,12 +84,15 @@ faultless bytes p =
     let some : leb 33 (length_field bytes) ≡ true = le-leb _ _ p.some in
     let most : leb (length_field bytes) 49152 ≡ true = le-leb _ _ p.most in
     let whole : eqb (length_field bytes) (length bytes) ≡ true = eq-eqb _ _ p.whole in
-    let behind : leb 32 (entry_field bytes) ≡ true = le-leb _ _ p.behind in
+    let after : leb 32 (entry_field bytes) ≡ true = le-leb _ _ p.after in
     let inside : ltb (entry_field bytes) (length_field bytes) ≡ true = lt-ltb _ _ p.inside in
-    let mark : bytes_eq (mark_field bytes) (codes "FLKC") ≡ true = (bytes_eq-Decides _ _).1 p.marked in
+    let mark : bytes_eq (mark_field bytes) (codes "FLKC") ≡ true =
+    (bytes_eq-Decides _ _).1 p.marked in
     let version : eqb (version_field bytes) 1 ≡ true = eq-eqb _ _ p.first in
-    let flags : (eqb (flags_field bytes) 0 || eqb (flags_field bytes) 1) ≡ true = flags_of_job _ p.flagged in
+    let flags : (eqb (flags_field bytes) 0 || eqb (flags_field bytes) 1) ≡ true =
+    flags_of_job _ p.flagged in
     let turns : leb 1 (budget_field bytes) ≡ true = le-leb _ _ p.turns in
     let bounded : leb (budget_field bytes) 1000000 ≡ true = le-leb _ _ p.bounded in
-    let reserved : bytes_eq (reserved_field bytes) (replicate 16 0) ≡ true = (bytes_eq-Decides _ _).1 p.zeros in
-    simp (short, some, most, whole, behind, inside, mark, version, flags, turns, bounded, reserved)
+    let reserved : bytes_eq (reserved_field bytes) (replicate 16 0) ≡ true =
+    (bytes_eq-Decides _ _).1 p.zeros in
+    simp (short, some, most, whole, after, inside, mark, version, flags, turns, bounded, reserved)

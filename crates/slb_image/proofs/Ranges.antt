@@ -8,7 +8,8 @@ use Rattle.slb_image.proofs.Checked.{passed}
 
 module _ (entry budget : ℕ) (code : List ℕ) where
   -- values without a fault are in their ranges
-  pub fits-from_none : All (λ byte. byte < 256) code → build_fault entry budget code ≡ None → FitsImage entry budget code
+  pub fits-from_none : All (λ byte. byte < 256) code → build_fault entry budget code ≡ None
+      → FitsImage entry budget code
   unfolding build_fault
   fits-from_none each none =
       let length = passed _ _ _ none in
@@ -30,8 +31,8 @@ module _ (entry budget : ℕ) (code : List ℕ) where
   none-from_fits fits =
       let some : leb 1 (length code) ≡ true = le-leb _ _ fits.code_length.0 in
       let short : leb (length code) 49120 ≡ true = le-leb _ _ fits.code_length.1 in
-      let behind : leb 32 entry ≡ true = le-leb _ _ fits.entry_inside.0 in
+      let after : leb 32 entry ≡ true = le-leb _ _ fits.entry_inside.0 in
       let inside : ltb entry (32 + length code) ≡ true = lt-ltb _ _ fits.entry_inside.1 in
       let turns : leb 1 budget ≡ true = le-leb _ _ fits.budget_range.0 in
       let bounded : leb budget 1000000 ≡ true = le-leb _ _ fits.budget_range.1 in
-      simp (some, short, behind, inside, turns, bounded)
+      simp (some, short, after, inside, turns, bounded)

@@ -1,9 +1,12 @@
 -- Why bytes are no image, and why values have none: the first check that fails.
-use Rattle.std.specs.Prelude.{ℕ, ◌+◌, Bool, ◌&&◌, ◌||◌, ◌==◌, nat_lt, nat_le, List, [], ◌∷◌, length, replicate, codes, bytes_eq, Option, Some, None, if◌then◌else◌}
+use Rattle.std.specs.Prelude.{ℕ, ◌+◌, Bool, ◌&&◌, ◌||◌, ◌==◌, nat_lt, nat_le, List, [], ◌∷◌, length}
+use Rattle.std.specs.Prelude.{replicate, codes, bytes_eq, Option, Some, None, if◌then◌else◌}
 use Rattle.std.specs.Int.{is_in_range}
-use Rattle.slb_image.specs.Fields.{entry_field, length_field, mark_field, version_field, flags_field, budget_field, reserved_field}
+use Rattle.slb_image.specs.Fields.{entry_field, length_field, mark_field, version_field}
+use Rattle.slb_image.specs.Fields.{flags_field, budget_field, reserved_field}
 use Rattle.slb_image.specs.declared.fault.ImageFault.{ImageFault}
-use Rattle.slb_image.specs.declared.fault.ImageFault.TheVariants.{Short, Length, Entry, Mark, Version, Flags, Budget, Reserved}
+use Rattle.slb_image.specs.declared.fault.ImageFault.TheVariants.{Short, Length, Entry, Mark}
+use Rattle.slb_image.specs.declared.fault.ImageFault.TheVariants.{Version, Flags, Budget, Reserved}
 
 -- the fault of the first check that fails
 abbrev pub first_failed : List (ImageFault × Bool) → Option ImageFault

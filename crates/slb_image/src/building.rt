@@ -5,7 +5,7 @@ ghost use Rattle.slb_image.specs.Faults.{build_fault};
 
 use crate::checks::fault_of_values;
 use crate::fault::ImageFault;
-use crate::fields::FRONT_LEN;
+use crate::fields::{CODE_LEN_MAX, FRONT_LEN, MARK, VERSION};
 use byteorder::{ByteOrder, LittleEndian};
 use flk_base::{Bytes, NoMemory};
 use std::alloc::Global;
@@ -22,22 +22,22 @@ pub enum BuildError {
 /// The front of the image of these values.
 #[tactic(auto, unfolding(crate::specs::Image::front))]
 fn front_of(code: &[u8], entry: u16, budget: u32, job: bool) -> [u8; FRONT_LEN]
-    requires { length code.now ≤ 49120 }
+    requires { length code.now ≤ CODE_LEN_MAX }
     ensures { result ≡ front entry budget job code.now }
 {
     let mut front = [0; FRONT_LEN];
     LittleEndian::write_u16(&mut front, entry);
     LittleEndian::write_u16(&mut front[2..], (FRONT_LEN + code.len()) as u16);
-    front[4..8].copy_from_slice(b"FLKC");
-    LittleEndian::write_u16(&mut front[8..], 1);
+    front[4..8].copy_from_slice(MARK);
+    LittleEndian::write_u16(&mut front[8..], VERSION);
     LittleEndian::write_u16(&mut front[10..], u16::from(job));
     LittleEndian::write_u32(&mut front[12..], budget);
     front
 }
 
 /// Front and code as one list.
-fn joined(alloc: Global, front: &[u8; FRONT_LEN], code: &[u8]) -> Result<Bytes, NoMemory>
-    requires { length code.now ≤ 49120 }
+fn front_and_code(alloc: Global, front: &[u8; FRONT_LEN], code: &[u8]) -> Result<Bytes, NoMemory>
+    requires { length code.now ≤ CODE_LEN_MAX }
     ensures { IfOk result (λ image. image.bytes ≡ front.now ++ code.now) }
 {
     let mut image = Bytes::new(alloc);
@@ -47,9 +47,10 @@ fn joined(alloc: Global, front: &[u8; FRONT_LEN], code: &[u8]) -> Result<Bytes, 
     Ok(image)
 }
 
-/// The image of these values, by docs/IMAGES.md. The code has 1 to 49,120 bytes (else Length), is entered at an
-/// offset from 32 up to and without the image's length (else Entry), and may take 1 to 1,000,000 turns (else
-/// Budget); the first of these that fails is answered. Where none fails, memory may still be short.
+/// The image of these values, by docs/IMAGES.md. The code has 1 to 49,120 bytes (else Length), is
+/// entered at an offset from 32 up to and without the image's length (else Entry), and may take 1
+/// to 1,000,000 turns (else Budget); the first of these that fails is answered. Where none fails,
+/// memory may still run out.
 pub fn build(
     alloc: Global,
     code: &[u8],
@@ -66,7 +67,7 @@ pub fn build(
     if let Some(fault) = fault_of_values(code, entry, budget) {
         return Err(BuildError::Image(fault));
     }
-    match joined(alloc, &front_of(code, entry as u16, budget, job), code) {
+    match front_and_code(alloc, &front_of(code, entry as u16, budget, job), code) {
         Ok(image) => Ok(image),
         Err(NoMemory) => Err(BuildError::NoMemory),
     }

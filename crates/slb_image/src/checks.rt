@@ -5,20 +5,23 @@ ghost use Rattle.slb_image.specs.Image.{FitsImage};
 ghost use Rattle.slb_image.specs.Faults.{image_fault, build_fault};
 
 use crate::fault::ImageFault;
-use crate::fields::{FRONT_LEN, budget_in, entry_in, flags_in, length_in, version_in};
+use crate::fields::{
+    BUDGET_MAX, CODE_LEN_MAX, FRONT_LEN, MARK, VERSION, budget_in, entry_in, flags_in, length_in,
+    version_in,
+};
 
 // Whether an image may have so many bytes.
 fn is_length(length: usize) -> bool
     ensures { result ≡ is_in_range 33 49152 length }
 {
-    (33..=49_152).contains(&length)
+    (FRONT_LEN + 1..=FRONT_LEN + CODE_LEN_MAX).contains(&length)
 }
 
 // Whether a code may have so many bytes.
 fn is_code_length(length: usize) -> bool
     ensures { result ≡ is_in_range 1 49120 length }
 {
-    (1..=49_120).contains(&length)
+    (1..=CODE_LEN_MAX).contains(&length)
 }
 
 // Whether an image of this length may be entered here.
@@ -32,7 +35,7 @@ fn is_entry(entry: usize, length: usize) -> bool
 fn is_budget(budget: u32) -> bool
     ensures { result ≡ is_in_range 1 1000000 budget }
 {
-    (1..=1_000_000).contains(&budget)
+    (1..=BUDGET_MAX).contains(&budget)
 }
 
 // The first fault of the bytes, if they are no image.
@@ -50,10 +53,10 @@ pub(crate) fn fault_of_image(bytes: &[u8]) -> Option<ImageFault>
     if !is_entry(usize::from(entry_in(bytes)), length) {
         return Some(ImageFault::Entry);
     }
-    if &bytes[4..8] != b"FLKC".as_slice() {
+    if &bytes[4..8] != MARK.as_slice() {
         return Some(ImageFault::Mark);
     }
-    if version_in(bytes) != 1 {
+    if version_in(bytes) != VERSION {
         return Some(ImageFault::Version);
     }
     if 1 < flags_in(bytes) {

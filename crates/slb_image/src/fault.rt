@@ -2,8 +2,8 @@
 ghost use Rattle.std.specs.Prelude.{◌≡◌};
 ghost use Rattle.slb_image.specs.Faults.{fault_number};
 
-/// Why bytes are no image, or why values have none. Each fault has the number of its row in docs/IMAGES.md, and
-/// the checks are made in this order.
+/// Why bytes are no image, or why values have none. Each fault has the number of its row in
+/// docs/IMAGES.md, and the checks are made in this order.
 #[derive(Clone, Copy, Debug, PartialEq, Eq)]
 pub enum ImageFault {
     /// There are fewer than 32 bytes.

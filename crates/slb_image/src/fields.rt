@@ -1,10 +1,23 @@
 //! The fields of a front, by their offsets.
 ghost use Rattle.std.specs.Prelude.{◌≡◌, ◌+◌, ◌≤◌, length};
 ghost use Rattle.byteorder.specs.Endian.{little_from};
-ghost use Rattle.slb_image.specs.Fields.{entry_field, length_field, version_field, flags_field, budget_field};
+ghost use Rattle.slb_image.specs.Fields.{entry_field, length_field, version_field, flags_field};
+ghost use Rattle.slb_image.specs.Fields.{budget_field};
 
 /// How many bytes a front has.
 pub(crate) const FRONT_LEN: usize = 32;
+
+/// How many bytes a code has at most.
+pub(crate) const CODE_LEN_MAX: usize = 49_120;
+
+/// How many turns a code may take at most.
+pub(crate) const BUDGET_MAX: u32 = 1_000_000;
+
+/// The mark of an image.
+pub(crate) const MARK: &[u8; 4] = b"FLKC";
+
+/// The version of the form.
+pub(crate) const VERSION: u16 = 1;
 
 /// The number in two bytes from an offset, the lowest first.
 fn u16_at(bytes: &[u8], offset: usize) -> u16
@@ -30,7 +43,7 @@ pub(crate) fn length_in(bytes: &[u8]) -> u16
     u16_at(bytes, 2)
 }
 
-/// The version of the form.
+/// The version that the bytes give.
 pub(crate) fn version_in(bytes: &[u8]) -> u16
     requires { 32 ≤ length bytes.now }
     ensures { result ≡ version_field bytes.now }

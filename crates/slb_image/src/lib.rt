@@ -1,5 +1,6 @@
-//! The image of a PAL: a front of 32 bytes that says where the code is entered and how many turns it may
-//! take, and the code. `build` makes images, and `view` takes exactly the images and lends their parts.
+//! The image of a PAL: a front of 32 bytes that says where the code is entered and how many turns
+//! it may take, and the code. `build` makes images, and `view` takes exactly the images and lends
+//! their parts.
 #![tactic(auto)]
 
 mod building;
@@ -7,8 +8,6 @@ mod checks;
 mod fault;
 mod fields;
 mod laws;
-#[cfg(test)]
-mod tests;
 mod viewing;
 
 pub use building::{BuildError, build};

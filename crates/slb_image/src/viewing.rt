@@ -26,7 +26,7 @@ impl<'a> Model for ImageView<'a> {
     ghost invariant = { λ v. IsImageOf (image_of v.bytes.now) v.bytes.now };
 }
 
-/// The bytes as an image, or the first fault in the order of the numbers. It takes no memory.
+/// The bytes as an image, or the first fault in the order of the numbers. It never allocates.
 pub fn view(bytes: &[u8]) -> Result<ImageView<'_>, ImageFault>
     ensures image { IfOk result (λ image. IsImageOf image bytes.now) }
     ensures fault { result_err result ≡ image_fault bytes.now }
@@ -47,7 +47,7 @@ impl ImageView<'_> {
         self.bytes
     }
 
-    /// The code, which begins behind the front.
+    /// The code, which begins after the front.
     pub fn code(&self) -> &[u8]
         ensures { result.now ≡ self.now.code }
     {

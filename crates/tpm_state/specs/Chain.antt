@@ -1,6 +1,7 @@
 -- Chains: what a register went through since it was last reset, as texts (TPM 1.2, part 1, platform
 -- configuration registers; part 3, TPM_Extend).
-use Rattle.std.specs.Prelude.{ℕ, ◌&&◌, nat_le, List, [], ◌∷◌, ◌++◌, replicate, map, slice_index_or, slice_set, if◌then◌else◌}
+use Rattle.std.specs.Prelude.{ℕ, ◌&&◌, nat_le, List, [], ◌∷◌, ◌++◌, replicate, map, slice_index_or}
+use Rattle.std.specs.Prelude.{slice_set, if◌then◌else◌}
 use Rattle.sha1.specs.Sha1.{sha1}
 
 -- what a register holds when it is reset: 20 bytes 00, or 20 bytes FF
@@ -19,17 +20,18 @@ pub data Chain : Type 0 where
   From : Start → Chain
   ◌▷◌ : Chain → List ℕ → Chain
 
--- a register's new value by its old one and the text that extends it (TPM 1.2: SHA-1 of the old value and
--- the text's digest)
-abbrev pub extended : List ℕ → List ℕ → List ℕ
-extended value text = sha1 (value ++ sha1 text)
+-- a register's new value by its old one and the text that extends it (TPM 1.2: SHA-1 of the old
+-- value and the text's digest)
+abbrev pub extended_value : List ℕ → List ℕ → List ℕ
+extended_value value text = sha1 (value ++ sha1 text)
 
 -- the value that a register shows, by its chain
 abbrev pub value : Chain → List ℕ
 value (From start) = start_value start
-value (chain ▷ text) = extended (value chain) text
+value (chain ▷ text) = extended_value (value chain) text
 
--- where register r starts at power-on: at FF where it is one of 17 to 22, which a late launch can reset
+-- where register r starts at power-on: at FF where it is one of 17 to 22, which a late launch can
+-- reset
 abbrev pub power_start : ℕ → Start
 power_start r = if nat_le 17 r && nat_le r 22 then Ones else Zeros
 
@@ -43,7 +45,9 @@ register_count = 24
 
 -- the numbers of the registers
 abbrev pub register_numbers : List ℕ
-register_numbers = 0 ∷ 1 ∷ 2 ∷ 3 ∷ 4 ∷ 5 ∷ 6 ∷ 7 ∷ 8 ∷ 9 ∷ 10 ∷ 11 ∷ 12 ∷ 13 ∷ 14 ∷ 15 ∷ 16 ∷ 17 ∷ 18 ∷ 19 ∷ 20 ∷ 21 ∷ 22 ∷ 23 ∷ []
+register_numbers =
+    0 ∷ 1 ∷ 2 ∷ 3 ∷ 4 ∷ 5 ∷ 6 ∷ 7 ∷ 8 ∷ 9 ∷ 10 ∷ 11 ∷ 12 ∷ 13 ∷ 14 ∷ 15 ∷ 16 ∷ 17 ∷ 18 ∷ 19 ∷ 20 ∷
+    21 ∷ 22 ∷ 23 ∷ []
 
 -- the chains after power-on
 abbrev pub power_chains : List Chain

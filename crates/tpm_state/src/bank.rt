@@ -1,6 +1,8 @@
 // The bank of registers.
-ghost use Rattle.std.specs.Prelude.{◌≡◌, ◌≤◌, ◌↔◌, ◌++◌, [], map, length, IsErr, IfOk, OnOk, OnErr, slice_index_or, slice_set};
-ghost use Rattle.tpm_state.specs.Chain.{extended, value, power_chains, launch_chain, register_count};
+ghost use Rattle.std.specs.Prelude.{◌≡◌, ◌≤◌, ◌↔◌, ◌++◌, [], map, length, IsErr, IfOk, OnOk, OnErr};
+ghost use Rattle.std.specs.Prelude.{slice_index_or, slice_set};
+ghost use Rattle.tpm_state.specs.Chain.{extended_value, value, power_chains, launch_chain};
+ghost use Rattle.tpm_state.specs.Chain.{register_count};
 
 use sha1::Sha1;
 use std::marker::Model;
@@ -48,18 +50,19 @@ impl Bank {
         self.registers[17] = [0x00; 20];
     }
 
-    /// Extends register `r` by the text that `front` and `text` are together.
-    pub fn extend(&mut self, r: u32, front: &[u8], text: &[u8]) -> Result<(), NoRegister>
+    /// Extends register `r` by the text that `prefix` and `text` are together.
+    pub fn extend(&mut self, r: u32, prefix: &[u8], text: &[u8]) -> Result<(), NoRegister>
         ensures refused { IsErr result ↔ (register_count ≤ r) }
         ensures ok { OnOk result (self.new
-            ≡ slice_set self.old r (extended (slice_index_or self.old r []) (front.now ++ text.now))) }
+            ≡ slice_set self.old r
+            (extended_value (slice_index_or self.old r []) (prefix.now ++ text.now))) }
         ensures err { OnErr result (self.new ≡ self.old) }
     {
         let at = r as usize;
         if at >= REGISTERS {
             return Err(NoRegister);
         }
-        self.registers[at] = extended(&self.registers[at], front, text);
+        self.registers[at] = extended_value(&self.registers[at], prefix, text);
         Ok(())
     }
 
@@ -77,11 +80,11 @@ impl Bank {
 }
 
 // The value that a text, in two parts, makes of a value.
-fn extended(value: &[u8; 20], front: &[u8], text: &[u8]) -> [u8; 20]
-    ensures { result ≡ extended value.now (front.now ++ text.now) }
+fn extended_value(value: &[u8; 20], prefix: &[u8], text: &[u8]) -> [u8; 20]
+    ensures { result ≡ extended_value value.now (prefix.now ++ text.now) }
 {
     let mut inner = Sha1::new();
-    inner.update(front);
+    inner.update(prefix);
     inner.update(text);
     let digest = inner.finalize();
     let mut outer = Sha1::new();

@@ -2,7 +2,5 @@
 #![tactic(auto)]
 
 mod bank;
-#[cfg(test)]
-mod tests;
 
 pub use bank::{Bank, NoRegister};

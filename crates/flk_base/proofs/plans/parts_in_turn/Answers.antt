@@ -4,7 +4,8 @@ use Rattle.flk_base.proofs.plans.parts_in_turn.Goals as goal
 pub returns-clause-value : goal.returns-clause-value
 returns-clause-value g c =
     λ no_memory lost reports costs m own b first next before between after z answer one rest.
-    parts_then no_memory lost reports costs m own b first next before between after z answer one rest
+    parts_then no_memory lost reports costs m own b first next before between after z answer one
+    rest
 
 pub returns-clause-error : goal.returns-clause-error
 returns-clause-error g c =

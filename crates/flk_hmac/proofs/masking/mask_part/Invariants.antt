@@ -3,6 +3,7 @@ use Rattle.flk_hmac.proofs.masking.mask_part.Given as goal
 
 abbrev pub invariant-loop-i : goal.invariant-loop-i
 invariant-loop-i l = record {
-  done : (k : ℕ) → k < l.i → get_or l.part k 0 ≡ bit_xor (get_or l.fn.part k 0) (get_or l.block k 0);
+  done : (k : ℕ) → k < l.i
+      → get_or l.part k 0 ≡ bit_xor (get_or l.fn.part k 0) (get_or l.block k 0);
   rest : (k : ℕ) → l.i ≤ k → get_or l.part k 0 ≡ get_or l.fn.part k 0;
 }

@@ -8,4 +8,5 @@ use Rattle.pal_asm.proofs.numbers.digits_value.Given as goal
 abbrev pub invariant-loop-c : goal.invariant-loop-c
 invariant-loop-c l =
     (l.value ≤ 2 ^ 33)
-    × (option_map read_as (digits_value l.radix l.value (drop l.c-index l.digits)) ≡ option_map read_as (digits_value l.radix 0 l.digits))
+    × (option_map read_as (digits_value l.radix l.value (drop l.c-index l.digits))
+    ≡ option_map read_as (digits_value l.radix 0 l.digits))

@@ -2,7 +2,8 @@ use Rattle.std.proofs.Common.{sym, ◌∙◌, arith}
 use Rattle.region_pool.proofs.MarkLemmas.{free_mark, taken_mark}
 use Rattle.region_pool.proofs.Search.{searched-found, searched-free, searched-taken}
 use Rattle.region_pool.proofs.place.lowest_place.Goals as goal
-use Rattle.region_pool.proofs.place.lowest_place.Goals.{then-not-is_free, else-not-is_free+else-candidate-frames}
+use Rattle.region_pool.proofs.place.lowest_place.Goals.{then-not-is_free}
+use Rattle.region_pool.proofs.place.lowest_place.Goals.{else-not-is_free+else-candidate-frames}
 
 pub returns-then-candidate-frames-clause-found : goal.returns-then-candidate-frames-clause-found
 returns-then-candidate-frames-clause-found c =

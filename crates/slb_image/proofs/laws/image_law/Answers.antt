@@ -5,12 +5,14 @@ use Rattle.std.proofs.lemmas.Bool.{cases_lt}
 use Rattle.slb_image.proofs.laws.image_law.Goals as goal
 use Rattle.slb_image.specs.Fields.{image_of}
 use Rattle.slb_image.proofs.Checked.{passes, faultless}
-use Rattle.slb_image.proofs.Packed.{passes-image, image_of-image, length-image, length_field-image_then}
+use Rattle.slb_image.proofs.Packed.{passes-image, image_of-image, length-image}
+use Rattle.slb_image.proofs.Packed.{length_field-image_then}
 use Rattle.slb_image.proofs.Ranges.{fits-from_none, none-from_fits}
 use Rattle.slb_image.proofs.Read.{read}
 
 pub returns-clause-determined : goal.returns-clause-determined
-returns-clause-determined c one other bytes a b = sym (image_of-image one bytes a) ∙ image_of-image other bytes b
+returns-clause-determined c one other bytes a b = sym (image_of-image one bytes a)
+    ∙ image_of-image other bytes b
 
 pub returns-clause-sized : goal.returns-clause-sized
 returns-clause-sized c image bytes is = length-image image bytes is
@@ -26,8 +28,11 @@ small bytes each i = elim (cases_lt i (length bytes)) [
 ]
 
 pub returns-clause-faultless : goal.returns-clause-faultless
-returns-clause-faultless c bytes each =
-    (λ none. (image_of bytes, read bytes (small bytes each) (passes bytes none)), λ is. faultless bytes (passes-image is.0 bytes is.1))
+returns-clause-faultless c bytes each = (
+  λ none. (image_of bytes, read bytes (small bytes each) (passes bytes none)),
+  λ is. faultless
+      bytes (passes-image is.0 bytes is.1),
+)
 
 pub returns-clause-ranges : goal.returns-clause-ranges
 returns-clause-ranges c entry budget code each =

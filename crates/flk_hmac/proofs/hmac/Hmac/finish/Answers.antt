@@ -7,5 +7,6 @@ unfolding Holds mac
 returns c = λ key text held.
     let block = held.0 in
     let inner = c.finalize.ensures _ held.1 in
-    let outer = c.finalize-2.ensures _ (c.update-2.ensures _ (c.update.ensures [] c.new-outer.ensures)) in
+    let outer = c.finalize-2.ensures _
+    (c.update-2.ensures _ (c.update.ensures [] c.new-outer.ensures)) in
     cc

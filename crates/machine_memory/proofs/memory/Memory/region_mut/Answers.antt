@@ -1,43 +1,57 @@
-use Rattle.std.proofs.Common.{◌≡◌, ℕ, ◌*◌, ◌≤◌, List, length, refl, sym, ap, ◌∙◌, arith}
+use Rattle.std.proofs.Common.{◌≡◌, ℕ, ◌≤◌, List, length, refl, ap, ◌∙◌, arith}
 use Rattle.std.proofs.lemmas.List.{with_items_is}
 use Rattle.region_pool.specs.Spans.{Holds}
 use Rattle.machine_memory.specs.Writes.{lent_back}
-use Rattle.machine_memory.specs.Contents.{Contents}
-use Rattle.machine_memory.proofs.Pieces.{length-lent_back, length-part}
+use Rattle.machine_memory.specs.Contents.{Contents, first_byte}
+use Rattle.machine_memory.proofs.Pieces.{length-part}
 use Rattle.machine_memory.proofs.MemoryLemmas.{memory-after_loan, span_within}
+use Rattle.machine_memory.proofs.Inside.{contents_of, length-loan}
 use Rattle.machine_memory.proofs.memory.Memory.region_mut.Goals as goal
 
 pub invariant_of-self-lent : goal.invariant_of-self-lent
 invariant_of-self-lent c = λ w.
-    let memory : Contents = record { bytes = c.self.inside.bytes.items.items; marks = c.self.inside.pool; excluded = c.self.inside.excluded.items } in
+    let memory = contents_of c.self.inside in
     let span = c.args.area.now in
     let frames = c.frames_of_region-count.result in
-    let held : Holds c.self.inside.pool span = rw (ap (λ (m : Contents). m.marks) c.self.view_is) c.requires.held in
-    let few : frames ≤ span.frames = (let all = c.requires.frames in let low = c.frames_of_region-count.ensures.few in omega arith) in
-    let within = span_within memory span frames c.self.invariant held few in
-    let after = lent_back memory.bytes (4096 * span.first) (4096 * frames) w in
-    let long : length after ≡ c.self.inside.bytes.items.len = length-lent_back memory.bytes (4096 * span.first) (4096 * frames) w within ∙ sym c.self.inside.bytes.items.ok.0 in
-    rw (c.first.ensures) (rw (with_items_is c.self.inside.bytes.items after long) (memory-after_loan memory span frames w c.self.invariant held few))
+    let held : Holds c.self.inside.pool span =
+    rw (ap (λ (m : Contents). m.marks) c.self.view_is) c.requires.held in
+    let few : frames ≤ span.frames =
+    (let all = c.requires.frames in let low = c.frames_of_region-count.ensures.few in
+    omega arith) in
+    let after = lent_back memory.bytes (first_byte span.first) (first_byte frames) w in
+    let long : length after ≡ c.self.inside.bytes.items.len =
+    length-loan memory span frames _ w c.self.invariant held few c.self.inside.bytes.items.ok.0 in
+    rw (c.first.ensures)
+    (rw (with_items_is c.self.inside.bytes.items after long)
+    (memory-after_loan memory span frames w c.self.invariant held few))
 
 pub returns : goal.returns
 returns c =
-    let memory : Contents = record { bytes = c.self.inside.bytes.items.items; marks = c.self.inside.pool; excluded = c.self.inside.excluded.items } in
+    let memory = contents_of c.self.inside in
     let span = c.args.area.now in
     let frames = c.frames_of_region-count.result in
-    let held : Holds c.self.inside.pool span = rw (ap (λ (m : Contents). m.marks) c.self.view_is) c.requires.held in
-    let few : frames ≤ span.frames = (let all = c.requires.frames in let low = c.frames_of_region-count.ensures.few in omega arith) in
+    let held : Holds c.self.inside.pool span =
+    rw (ap (λ (m : Contents). m.marks) c.self.view_is) c.requires.held in
+    let few : frames ≤ span.frames =
+    (let all = c.requires.frames in let low = c.frames_of_region-count.ensures.few in
+    omega arith) in
     let within = span_within memory span frames c.self.invariant held few in
     let lent = rw (c.first.ensures) at c.part.ensures.value in (
       (
         refl,
         λ w.
-            let after = lent_back memory.bytes (4096 * span.first) (4096 * frames) w in
-            let long : length after ≡ c.self.inside.bytes.items.len = length-lent_back memory.bytes (4096 * span.first) (4096 * frames) w within ∙ sym c.self.inside.bytes.items.ok.0 in
-            rw (← c.self.view_is, c.first.ensures, ← c.frames_of_region-count.ensures.same) (ap (λ (bytes : List ℕ). record memory { bytes = bytes }) (with_items_is c.self.inside.bytes.items after long)),
+            let after = lent_back memory.bytes (first_byte span.first) (first_byte frames) w in
+            let long : length after ≡ c.self.inside.bytes.items.len =
+            length-loan memory span frames _ w c.self.invariant held few
+            c.self.inside.bytes.items.ok.0 in
+            rw (← c.self.view_is, c.first.ensures, ← c.frames_of_region-count.ensures.same)
+            (ap (λ (bytes : List ℕ). record memory { bytes = bytes })
+            (with_items_is c.self.inside.bytes.items after long)),
       ),
       record {
         lends = tt;
         bytes = rw (← c.self.view_is, ← c.frames_of_region-count.ensures.same) lent;
-        size = rw (← c.frames_of_region-count.ensures.same) (ap (λ (xs : List ℕ). length xs) lent ∙ length-part memory.bytes (4096 * span.first) (4096 * frames) within);
+        size = rw (← c.frames_of_region-count.ensures.same) (ap (λ (xs : List ℕ). length xs) lent
+            ∙ length-part memory.bytes (first_byte span.first) (first_byte frames) within);
       },
     )

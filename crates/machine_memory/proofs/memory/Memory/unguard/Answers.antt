@@ -2,12 +2,16 @@ use Rattle.std.proofs.Common.{ap, arith, false}
 use Rattle.region_pool.specs.Spans.{Holds}
 use Rattle.machine_memory.specs.Contents.{Contents}
 use Rattle.machine_memory.proofs.MemoryLemmas.{memory-span_bits}
+use Rattle.machine_memory.proofs.Inside.{contents_of}
 use Rattle.machine_memory.proofs.memory.Memory.unguard.Goals as goal
 
 pub invariant_of-self : goal.invariant_of-self
 invariant_of-self c =
-    let memory : Contents = record { bytes = c.self.inside.bytes.items.items; marks = c.self.inside.pool; excluded = c.self.inside.excluded.items } in
-    let held : Holds c.self.inside.pool c.args.area.now = rw (ap (λ (m : Contents). m.marks) c.self.view_is) c.requires.held in
+    let memory = contents_of c.self.inside in
+    let held : Holds c.self.inside.pool c.args.area.now =
+    rw (ap (λ (m : Contents). m.marks) c.self.view_is) c.requires.held in
     let frames = c.requires.frames in
     let few = c.frames_of_region.ensures.few in
-    rw (c.exclude_at.ensures, c.first-first.ensures) (memory-span_bits memory c.args.area.now c.frames_of_region.result false c.self.invariant held (omega arith))
+    rw (c.exclude_at.ensures, c.first-first.ensures)
+    (memory-span_bits memory c.args.area.now c.frames_of_region.result false c.self.invariant
+    held (omega arith))

@@ -1,6 +1,0 @@
-use Rattle.std.proofs.Common.{◌≡◌, ◌++◌, map, take, drop, bit_xor}
-use Rattle.flk_hmac.proofs.hmac.xored.Given as goal
-
-abbrev pub invariant-loop-byte : goal.invariant-loop-byte
-invariant-loop-byte l =
-    l.byte-items ≡ map (λ byte. bit_xor byte l.pad) (take l.byte-index l.fn.block) ++ drop l.byte-index l.fn.block
