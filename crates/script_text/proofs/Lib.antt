@@ -1,15 +1,7 @@
-pub mod AllOfLemmas
+pub mod ArgumentLemmas
 pub mod BufferLemmas
-pub mod ExpressionLemmas
 pub mod LineLemmas
-pub mod NumberLemmas
-pub mod PieceLemmas
-pub mod PlainLemmas
+pub mod MemoryLemmas
 pub mod ReaderLemmas
 pub mod ReadingLemmas
-pub mod SpellingLemmas
-pub mod ValueLemmas
-pub mod VariableLemmas
-pub mod WantLemmas
-pub mod WindowLemmas
 pub mod WordLemmas

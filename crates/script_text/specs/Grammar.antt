@@ -1,53 +1,133 @@
--- The grammar of a line: what it asks for.
-use Rattle.std.specs.Prelude.{◌≡◌, ℕ, ◌≤◌, ◌==◌, ◌||◌, ◌&&◌, nat_le, Bool, true, false, List, [], ◌∷◌, length, slice_index, codes, Some}
-use Rattle.std.specs.List.{AllPass}
-use Rattle.script_text.specs.Lines.{longest_line, words, content}
-use Rattle.script_text.specs.Numbers.{number_of}
-use Rattle.script_text.specs.Expressions.{Term, is_name, SpellsExpression}
+-- The grammar of a line: what it asks for, and the table of the commands.
+use Rattle.std.specs.Prelude.{◌≡◌, ◌⊎◌, ℕ, ◌≤◌, ◌==◌, ◌||◌, ◌&&◌, nat_le, Bool, true, false, List, [], ◌∷◌, length, slice_index, codes, Option, Some, None}
+use Rattle.std.specs.List.{AllPass, position}
+use Rattle.std.specs.Str.{bytes_eq}
+use Rattle.expr_text.specs.Numbers.{number_of}
+use Rattle.expr_text.specs.Expressions.{Term, is_name, SpellsExpression}
+use Rattle.script_text.specs.Lines.{words, content}
+use Rattle.script_text.specs.declared.line.TheConstants.{LONGEST_LINE}
+use Rattle.script_text.specs.declared.command.Kind.{Kind}
+use Rattle.script_text.specs.declared.command.Kind.TheVariants.{Number, Name, ImageKind, Register, Expression}
+use Rattle.script_text.specs.declared.command.Command.{Command}
+use Rattle.script_text.specs.declared.command.Command.TheVariants.{Extend, Read, Let, Show, Image, Take, Give, Poke, Peek, Dma, SetReg, Regs, Arm, Session, SessionInto}
 
--- what a line asks for: nothing, to extend a register by a text, to read a register, to bind a name to a value, to
--- show a value, or to bind a name to the image of some code; and of memory to take so many frames, to give back the
--- span at an address, and from an address on to write bytes, to show so many, or to have a device write some
+-- what a line asks for: nothing, to extend a register by a text, to read a register, to bind a name
+-- to a value, to show a value, or to bind a name to the image of some code; of memory to take so
+-- many frames, to give back the span at an address, and from an address on to write bytes, to show
+-- so many, or to have a device write some; and of the processor to set a register, to show all, to
+-- have a device write bytes at a turn of the next session, or to run a session of an image on
+-- inputs, and to bind a name, if there is one, to what it puts out
 pub data Request : Type 0 where
   Nothing : Request
   ExtendBy : (r : ℕ) → (text : List Term) → Request
   ReadOf : (r : ℕ) → Request
   LetBe : (name : List ℕ) → (value : List Term) → Request
   ShowOf : (value : List Term) → Request
-  ImageOf : (name : List ℕ) → (job : Bool) → (entry : ℕ) → (budget : ℕ) → (code : List Term) → Request
+  ImageOf : (name : List ℕ) → (job : Bool) → (entry : ℕ) → (budget : ℕ) → (code : List Term)
+      → Request
   TakeOf : (frames : ℕ) → Request
   GiveAt : (at : ℕ) → Request
   PokeAt : (at : ℕ) → (bytes : List Term) → Request
   PeekAt : (at : ℕ) → (count : ℕ) → Request
   DmaAt : (at : ℕ) → (bytes : List Term) → Request
+  SetRegOf : (reg : ℕ) → (n : ℕ) → Request
+  RegsOf : Request
+  ArmAt : (turn : ℕ) → (at : ℕ) → (bytes : List Term) → Request
+  SessionOf : (image inputs nonce : List Term) → (var : Option (List ℕ)) → Request
 
--- ---- words
+-- ---- words, by their kinds
 
--- what a word may stand for
-pub data Value : Type 0 where
-  ANumber : (n : ℕ) → Value
-  AName : (name : List ℕ) → Value
-  AKind : (job : Bool) → Value
-  AnExpression : (terms : List Term) → Value
+-- what a word of a kind stands for: a number, a name, whether the image is a job's, the number of
+-- a register of the processor, or terms
+abbrev pub Meaning : Kind → Type 0
+Meaning Number = ℕ
+Meaning Name = List ℕ
+Meaning ImageKind = Bool
+Meaning Register = ℕ
+Meaning Expression = List Term
+
+-- what words of these kinds stand for, one after another
+abbrev pub Meanings : List Kind → Type 0
+Meanings [] = Unit {0}
+Meanings (kind ∷ kinds) = Meaning kind × Meanings kinds
 
 -- an image of measured code, or of a job
-abbrev pub kind_word : Bool → List ℕ
-kind_word false = codes "pal"
-kind_word true = codes "job"
+abbrev pub image_kind_word : Bool → List ℕ
+image_kind_word false = codes "pal"
+image_kind_word true = codes "job"
 
--- the word spells the value
-abbrev pub Spells : Value → List ℕ → Type 0
-Spells (ANumber n) word = number_of word ≡ Some n
-Spells (AName name) word = (word ≡ name) × (is_name name ≡ true)
-Spells (AKind job) word = word ≡ kind_word job
-Spells (AnExpression terms) word = SpellsExpression terms word
+-- the names of the registers, by their numbers
+abbrev pub register_words : List (List ℕ)
+register_words =
+    codes "eax" ∷ codes "ecx" ∷ codes "edx" ∷ codes "ebx"
+    ∷ codes "esp" ∷ codes "ebp" ∷ codes "esi" ∷ codes "edi" ∷ []
 
--- the words spell the values, each word one
-abbrev pub SpellAll : List Value → List (List ℕ) → Type 0
-SpellAll [] [] = Unit {0}
-SpellAll [] (word ∷ words) = ⊥
-SpellAll (value ∷ values) [] = ⊥
-SpellAll (value ∷ values) (word ∷ words) = Spells value word × SpellAll values words
+-- the number of the register of this name
+unfoldable pub register_of : List ℕ → Option ℕ
+register_of word = position (λ name. bytes_eq name word) register_words
+
+-- the word spells this, by its kind
+abbrev pub Spells : (kind : Kind) → Meaning kind → List ℕ → Type 0
+Spells Number n word = number_of word ≡ Some n
+Spells Name name word = (word ≡ name) × (is_name name ≡ true)
+Spells ImageKind job word = word ≡ image_kind_word job
+Spells Register reg word = register_of word ≡ Some reg
+Spells Expression terms word = SpellsExpression terms word
+
+-- the words spell these, each word one
+abbrev pub SpellEach : (kinds : List Kind) → Meanings kinds → List (List ℕ) → Type 0
+SpellEach [] meanings [] = Unit {0}
+SpellEach [] meanings (word ∷ others) = ⊥
+SpellEach (kind ∷ kinds) meanings [] = ⊥
+SpellEach (kind ∷ kinds) meanings (word ∷ others) =
+    Spells kind meanings.0 word × SpellEach kinds meanings.1 others
+
+-- ---- the table
+
+-- A command's word, and the kinds of the words after it. A line with a word that may be missing
+-- has two rows of one word, without it and with it.
+pub record Row : Type 0 where
+  pub word : List ℕ
+  pub kinds : List Kind
+
+-- the row of each command
+abbrev pub row : Command → Row
+row Extend = record { word = codes "extend"; kinds = Number ∷ Expression ∷ [] }
+row Read = record { word = codes "read"; kinds = Number ∷ [] }
+row Let = record { word = codes "let"; kinds = Name ∷ Expression ∷ [] }
+row Show = record { word = codes "show"; kinds = Expression ∷ [] }
+row Image =
+    record { word = codes "image"; kinds = Name ∷ ImageKind ∷ Number ∷ Number ∷ Expression ∷ [] }
+row Take = record { word = codes "take"; kinds = Number ∷ [] }
+row Give = record { word = codes "give"; kinds = Number ∷ [] }
+row Poke = record { word = codes "poke"; kinds = Number ∷ Expression ∷ [] }
+row Peek = record { word = codes "peek"; kinds = Number ∷ Number ∷ [] }
+row Dma = record { word = codes "dma"; kinds = Number ∷ Expression ∷ [] }
+row SetReg = record { word = codes "reg"; kinds = Register ∷ Number ∷ [] }
+row Regs = record { word = codes "regs"; kinds = [] }
+row Arm = record { word = codes "arm"; kinds = Number ∷ Number ∷ Expression ∷ [] }
+row Session = record { word = codes "session"; kinds = Expression ∷ Expression ∷ Expression ∷ [] }
+row SessionInto =
+    record { word = codes "session"; kinds = Expression ∷ Expression ∷ Expression ∷ Name ∷ [] }
+
+-- what a command asks for with these arguments
+abbrev pub request : (command : Command) → Meanings (row command).kinds → Request
+request Extend (r, (text, _)) = ExtendBy r text
+request Read (r, _) = ReadOf r
+request Let (name, (value, _)) = LetBe name value
+request Show (value, _) = ShowOf value
+request Image (name, (job, (entry, (budget, (code, _))))) = ImageOf name job entry budget code
+request Take (frames, _) = TakeOf frames
+request Give (at, _) = GiveAt at
+request Poke (at, (bytes, _)) = PokeAt at bytes
+request Peek (at, (count, _)) = PeekAt at count
+request Dma (at, (bytes, _)) = DmaAt at bytes
+request SetReg (reg, (n, _)) = SetRegOf reg n
+request Regs _ = RegsOf
+request Arm (turn, (at, (bytes, _))) = ArmAt turn at bytes
+request Session (image, (inputs, (nonce, _))) = SessionOf image inputs nonce None
+request SessionInto (image, (inputs, (nonce, (var, _)))) =
+    SessionOf image inputs nonce (Some var)
 
 -- ---- lines
 
@@ -56,49 +136,25 @@ abbrev pub is_printable : ℕ → Bool
 is_printable c = c == 9 || nat_le 32 c && nat_le c 126
 
 -- no words, or a first word that begins with #
-abbrev pub is_remark : List (List ℕ) → Bool
-is_remark [] = true
-is_remark (word ∷ words) = slice_index word 0 == 35
+abbrev pub is_comment : List (List ℕ) → Bool
+is_comment [] = true
+is_comment (word ∷ others) = slice_index word 0 == 35
 
--- the word that begins a line, and the values of those behind it
-abbrev pub command_word : Request → List ℕ
-command_word Nothing = []
-command_word (ExtendBy r text) = codes "extend"
-command_word (ReadOf r) = codes "read"
-command_word (LetBe name value) = codes "let"
-command_word (ShowOf value) = codes "show"
-command_word (ImageOf name job entry budget code) = codes "image"
-command_word (TakeOf frames) = codes "take"
-command_word (GiveAt at) = codes "give"
-command_word (PokeAt at bytes) = codes "poke"
-command_word (PeekAt at count) = codes "peek"
-command_word (DmaAt at bytes) = codes "dma"
-
-abbrev pub arguments : Request → List Value
-arguments Nothing = []
-arguments (ExtendBy r text) = ANumber r ∷ AnExpression text ∷ []
-arguments (ReadOf r) = ANumber r ∷ []
-arguments (LetBe name value) = AName name ∷ AnExpression value ∷ []
-arguments (ShowOf value) = AnExpression value ∷ []
-arguments (ImageOf name job entry budget code) = AName name ∷ AKind job ∷ ANumber entry ∷ ANumber budget ∷ AnExpression code ∷ []
-arguments (TakeOf frames) = ANumber frames ∷ []
-arguments (GiveAt at) = ANumber at ∷ []
-arguments (PokeAt at bytes) = ANumber at ∷ AnExpression bytes ∷ []
-arguments (PeekAt at count) = ANumber at ∷ ANumber count ∷ []
-arguments (DmaAt at bytes) = ANumber at ∷ AnExpression bytes ∷ []
-
--- the first word is the command's, and the others spell its arguments
-abbrev pub SpellsCommand : Request → List (List ℕ) → Type 0
-SpellsCommand request [] = ⊥
-SpellsCommand request (word ∷ others) = (word ≡ command_word request) × SpellAll (arguments request) others
+-- the first word is a command's, and the others spell its arguments
+pub record SpellsCommand (asked : Request) (line : List (List ℕ)) : Type 0 where
+  pub command : Command
+  pub arguments : Meanings (row command).kinds
+  pub others : List (List ℕ)
+  pub asks : asked ≡ request command arguments
+  pub whole : line ≡ (row command).word ∷ others
+  pub each : SpellEach (row command).kinds arguments others
 
 -- the words spell the request
 abbrev pub SpellsWords : Request → List (List ℕ) → Type 0
-SpellsWords Nothing ws = is_remark ws ≡ true
-SpellsWords request ws = SpellsCommand request ws
+SpellsWords asked line = ((asked ≡ Nothing) × (is_comment line ≡ true)) ⊎ SpellsCommand asked line
 
 -- the line, without its LF, spells the request
-pub record SpellsLine (request : Request) (line : List ℕ) : Type 0 where
-  pub short : length line ≤ longest_line
+pub record SpellsLine (asked : Request) (line : List ℕ) : Type 0 where
+  pub short : length line ≤ LONGEST_LINE
   pub printable : AllPass is_printable (content line)
-  pub spelled : SpellsWords request (words (content line))
+  pub spelled : SpellsWords asked (words (content line))

@@ -1,15 +1,8 @@
+pub mod Arguments
 pub mod Buffered
-pub mod ExpressionReading
-pub mod Expressions
 pub mod Grammar
 pub mod Lines
-pub mod Numbers
-pub mod Pieces
 pub mod Reader
 pub mod Reading
 pub mod Seen
-pub mod SeenExpressions
-pub mod Values
-pub mod Variables
-pub mod Windows
 pub mod Words

@@ -1,155 +1,126 @@
 -- What a line asks for, or the first thing that is wrong with it: the checks in their order.
-use Rattle.std.specs.Prelude.{ℕ, nat_lt, Bool, true, false, List, [], ◌∷◌, length, codes, Result, Ok, Err, if◌then◌else◌}
+use Rattle.std.specs.Prelude.{ℕ, nat_lt, Bool, true, false, List, [], ◌∷◌, ◌==◌, ◌&&◌, length, Option, Some, None, Result, Ok, Err, if◌then◌else◌}
 use Rattle.std.specs.Option.{ok_or}
-use Rattle.std.specs.List.{list_all, list_any}
+use Rattle.std.specs.List.{list_all, list_any, find}
 use Rattle.std.specs.Str.{bytes_eq}
 use Rattle.flk_base.specs.Checks.{◌>>=◌}
-use Rattle.script_text.specs.Lines.{longest_line, most_lines, words, content}
-use Rattle.script_text.specs.Numbers.{number_of}
-use Rattle.script_text.specs.Expressions.{Term, is_name}
-use Rattle.script_text.specs.ExpressionReading.{expression_of}
-use Rattle.script_text.specs.Grammar.{Request, Nothing, ExtendBy, ReadOf, LetBe, ShowOf, ImageOf, TakeOf, GiveAt, PokeAt, PeekAt, DmaAt, is_printable, is_remark}
+use Rattle.expr_text.specs.Numbers.{number_of}
+use Rattle.expr_text.specs.Expressions.{is_name}
+use Rattle.expr_text.specs.ExpressionReading.{expression_of}
+use Rattle.script_text.specs.Lines.{words, content}
+use Rattle.script_text.specs.declared.line.TheConstants.{LONGEST_LINE, MOST_LINES}
+use Rattle.script_text.specs.Grammar.{Request, Nothing, Meaning, Meanings, image_kind_word, register_of, row, request, is_printable, is_comment}
+use Rattle.script_text.specs.declared.command.Kind.{Kind}
+use Rattle.script_text.specs.declared.command.Kind.TheVariants.{Number, Name, ImageKind, Register, Expression}
+use Rattle.script_text.specs.declared.command.Command.{Command}
+use Rattle.script_text.specs.declared.command.TheConstants.{COMMANDS}
 use Rattle.script_text.specs.declared.line.BadLine.{BadLine}
 use Rattle.script_text.specs.declared.line.BadLine.TheVariants.{Faulty, TooMany}
 use Rattle.script_text.specs.declared.line.LineFault.{LineFault}
-use Rattle.script_text.specs.declared.line.LineFault.TheVariants.{LongLine, Byte, Command, Count, Number, Expression, Name}
+use Rattle.script_text.specs.declared.line.LineFault.TheVariants as fault
 
--- ---- one word
+-- ---- the words after a command's
 
--- a word that has to be a Number
-abbrev pub number_in : List ℕ → Result ℕ LineFault
-number_in word = ok_or (number_of word) Number
+-- what a word stands for, by the kind that it has to be
+abbrev pub meaning_in : (kind : Kind) → List ℕ → Result (Meaning kind) LineFault
+meaning_in Number word = ok_or (number_of word) fault.Number
+meaning_in Name word = if is_name word then Ok word else Err fault.Name
+meaning_in ImageKind word =
+    if bytes_eq word (image_kind_word false) then Ok false
+    else if bytes_eq word (image_kind_word true) then Ok true
+    else Err fault.Name
+meaning_in Register word = ok_or (register_of word) fault.Name
+meaning_in Expression word = ok_or (expression_of word) fault.Expression
 
--- a word that has to be a Name
-abbrev pub name_in : List ℕ → Result (List ℕ) LineFault
-name_in word = if is_name word then Ok word else Err Name
+-- what words stand for, from the left, each by its kind
+abbrev pub each_in : (kinds : List Kind) → List (List ℕ) → Result (Meanings kinds) LineFault
+each_in [] [] = Ok tt
+each_in [] (word ∷ others) = Err fault.Count
+each_in (kind ∷ kinds) [] = Err fault.Count
+each_in (kind ∷ kinds) (word ∷ others) =
+    meaning_in kind word >>= λ meaning. each_in kinds others >>= λ meanings. Ok (meaning, meanings)
 
--- a word that has to be `pal` or `job`
-abbrev pub kind_in : List ℕ → Result Bool LineFault
-kind_in word = if bytes_eq word (codes "pal") then Ok false else if bytes_eq word (codes "job") then Ok true else Err Name
+-- ---- a line
 
--- a word that has to be an Expression
-abbrev pub expression_in : List ℕ → Result (List Term) LineFault
-expression_in word = ok_or (expression_of word) Expression
+-- the word is a command's
+unfoldable pub is_command : List ℕ → Bool
+is_command word = list_any (λ command. bytes_eq (row command).word word) COMMANDS
 
--- ---- so many words
+-- the command has this word, and so many words after it
+abbrev pub fits : List ℕ → ℕ → Command → Bool
+fits word count command = bytes_eq (row command).word word && count == length (row command).kinds
 
-abbrev pub one_of : List (List ℕ) → Result (List ℕ) LineFault
-one_of (a ∷ []) = Ok a
-one_of other = Err Count
+-- the command of a word with so many words after it
+unfoldable pub command_of : List ℕ → ℕ → Option Command
+command_of word count = find (fits word count) COMMANDS
 
-abbrev pub two_of : List (List ℕ) → Result (List ℕ × List ℕ) LineFault
-two_of (a ∷ b ∷ []) = Ok (a, b)
-two_of other = Err Count
+-- the same, or what is wrong: first the word, then how many words there are after it
+abbrev pub command_for : List ℕ → ℕ → Result Command LineFault
+command_for word count =
+    if is_command word then ok_or (command_of word count) fault.Count else Err fault.Command
 
-abbrev pub five_of : List (List ℕ) → Result (List ℕ × List ℕ × List ℕ × List ℕ × List ℕ) LineFault
-five_of (a ∷ b ∷ c ∷ d ∷ e ∷ []) = Ok (a, b, c, d, e)
-five_of other = Err Count
-
--- ---- each command: the number of its words, then the words from the left
-
-abbrev pub extend_in : List (List ℕ) → Result Request LineFault
-extend_in others = two_of others >>= λ w. number_in w.0 >>= λ r. expression_in w.1 >>= λ text. Ok (ExtendBy r text)
-
-abbrev pub read_in : List (List ℕ) → Result Request LineFault
-read_in others = one_of others >>= λ w. number_in w >>= λ r. Ok (ReadOf r)
-
-abbrev pub let_in : List (List ℕ) → Result Request LineFault
-let_in others = two_of others >>= λ w. name_in w.0 >>= λ name. expression_in w.1 >>= λ value. Ok (LetBe name value)
-
-abbrev pub show_in : List (List ℕ) → Result Request LineFault
-show_in others = one_of others >>= λ w. expression_in w >>= λ value. Ok (ShowOf value)
-
-abbrev pub image_in : List (List ℕ) → Result Request LineFault
-image_in others =
-    five_of others >>= λ w. name_in w.0 >>= λ name. kind_in w.1 >>= λ job. number_in w.2 >>= λ entry.
-    number_in w.3 >>= λ budget. expression_in w.4 >>= λ code. Ok (ImageOf name job entry budget code)
-
-abbrev pub take_in : List (List ℕ) → Result Request LineFault
-take_in others = one_of others >>= λ w. number_in w >>= λ frames. Ok (TakeOf frames)
-
-abbrev pub give_in : List (List ℕ) → Result Request LineFault
-give_in others = one_of others >>= λ w. number_in w >>= λ at. Ok (GiveAt at)
-
-abbrev pub poke_in : List (List ℕ) → Result Request LineFault
-poke_in others = two_of others >>= λ w. number_in w.0 >>= λ at. expression_in w.1 >>= λ bytes. Ok (PokeAt at bytes)
-
-abbrev pub peek_in : List (List ℕ) → Result Request LineFault
-peek_in others = two_of others >>= λ w. number_in w.0 >>= λ at. number_in w.1 >>= λ count. Ok (PeekAt at count)
-
-abbrev pub dma_in : List (List ℕ) → Result Request LineFault
-dma_in others = two_of others >>= λ w. number_in w.0 >>= λ at. expression_in w.1 >>= λ bytes. Ok (DmaAt at bytes)
-
--- a command on memory, then what stands behind it
-abbrev pub memory_command_in : List ℕ → List (List ℕ) → Result Request LineFault
-memory_command_in word others =
-    if bytes_eq word (codes "take") then take_in others
-    else if bytes_eq word (codes "give") then give_in others
-    else if bytes_eq word (codes "poke") then poke_in others
-    else if bytes_eq word (codes "peek") then peek_in others
-    else if bytes_eq word (codes "dma") then dma_in others
-    else Err Command
-
--- the command, then what stands behind it
+-- the command, then each of its arguments
 abbrev pub command_in : List ℕ → List (List ℕ) → Result Request LineFault
 command_in word others =
-    if bytes_eq word (codes "extend") then extend_in others
-    else if bytes_eq word (codes "read") then read_in others
-    else if bytes_eq word (codes "let") then let_in others
-    else if bytes_eq word (codes "show") then show_in others
-    else if bytes_eq word (codes "image") then image_in others
-    else memory_command_in word others
+    command_for word (length others) >>= λ command.
+    each_in (row command).kinds others >>= λ arguments. Ok (request command arguments)
 
 -- the words of a line
 abbrev pub words_in : List (List ℕ) → Result Request LineFault
 words_in [] = Ok Nothing
-words_in (word ∷ others) = if is_remark (word ∷ others) then Ok Nothing else command_in word others
+words_in (word ∷ others) =
+    if is_comment (word ∷ others) then Ok Nothing else command_in word others
 
 -- a line: its length, its bytes, then its words
 abbrev pub reading : List ℕ → Result Request LineFault
 reading line =
-    if nat_lt longest_line (length line) then Err LongLine
+    if nat_lt LONGEST_LINE (length line) then Err fault.LongLine
     else if list_all is_printable (content line) then words_in (words (content line))
-    else Err Byte
+    else Err fault.Byte
 
 -- a line with a fault is bad
 abbrev pub as_bad : Result Request LineFault → Result Request BadLine
-as_bad (Ok request) = Ok request
-as_bad (Err fault) = Err (Faulty fault)
+as_bad (Ok asked) = Ok asked
+as_bad (Err why) = Err (Faulty why)
 
--- what line n of a script asks for, or why it is bad: none may stand behind the last that a script may have
+-- what line n of a script asks for, or why it is bad: none may stand after the last that a script
+-- may have
 abbrev pub judged : ℕ → List ℕ → Result Request BadLine
-judged n line = if nat_lt most_lines n then Err TooMany else as_bad (reading line)
+judged n line = if nat_lt MOST_LINES n then Err TooMany else as_bad (reading line)
 
--- ---- memory: it is taken for a name and for an expression alone
+-- ---- memory: it is asked for by a name and by an expression alone
 
--- it is found before any word behind the command is tried
+-- it is found before any word after the command is tried
 abbrev pub IsEarly : LineFault → Type 0
-IsEarly LongLine = Unit {0}
-IsEarly Byte = Unit {0}
-IsEarly Command = Unit {0}
-IsEarly Count = Unit {0}
+IsEarly fault.LongLine = Unit {0}
+IsEarly fault.Byte = Unit {0}
+IsEarly fault.Command = Unit {0}
+IsEarly fault.Count = Unit {0}
 IsEarly other = ⊥
 
--- it has no name and no expression
-abbrev pub IsPlain : Request → Type 0
-IsPlain Nothing = Unit {0}
-IsPlain (ReadOf r) = Unit {0}
-IsPlain (TakeOf frames) = Unit {0}
-IsPlain (GiveAt at) = Unit {0}
-IsPlain (PeekAt at count) = Unit {0}
-IsPlain other = ⊥
+-- nothing is wrong, or only with a word after the command
+abbrev pub IsLate : {A : Type 0} → Result A LineFault → Type 0
+IsLate (Ok read) = Unit {0}
+IsLate (Err why) = IsEarly why → ⊥
 
--- the commands that have a name or an expression behind them
-abbrev pub taking_commands : List (List ℕ)
-taking_commands = codes "extend" ∷ codes "let" ∷ codes "show" ∷ codes "image" ∷ codes "poke" ∷ codes "dma" ∷ []
+-- a word of this kind is kept in memory
+abbrev pub is_kept : Kind → Bool
+is_kept Number = false
+is_kept Name = true
+is_kept ImageKind = false
+is_kept Register = false
+is_kept Expression = true
 
--- the words begin with one
-abbrev pub words_take : List (List ℕ) → Bool
-words_take [] = false
-words_take (word ∷ others) = list_any (bytes_eq word) taking_commands
+-- words of these kinds may allocate
+abbrev pub may_allocate : List Kind → Bool
+may_allocate kinds = list_any is_kept kinds
 
--- memory may be wanting before there is this answer
-abbrev pub MayWant : Result Request LineFault → Type 0
-MayWant (Ok request) = IsPlain request → ⊥
-MayWant (Err fault) = IsEarly fault → ⊥
+-- the arguments of a command, if there is one, may allocate
+abbrev pub command_may_allocate : Option Command → Bool
+command_may_allocate None = false
+command_may_allocate (Some command) = may_allocate (row command).kinds
+
+-- the words of a line may allocate: they begin with a command with a name or an expression after it
+abbrev pub words_may_allocate : List (List ℕ) → Bool
+words_may_allocate [] = false
+words_may_allocate (word ∷ others) = command_may_allocate (command_of word (length others))

@@ -1,8 +1,9 @@
 -- What contracts see of an event, and of the error where there is none.
-use Rattle.std.specs.Prelude.{◌≤◌, length, ℕ, List, Option, Some, None}
-use Rattle.script_text.specs.Grammar.{Request, Nothing, ExtendBy, ReadOf, LetBe, ShowOf, ImageOf, TakeOf, GiveAt, PokeAt, PeekAt, DmaAt}
+use Rattle.std.specs.Prelude.{◌≤◌, length, ℕ, List, Option, Some, None, option_map, ◌<◌}
+use Rattle.script_text.specs.Grammar.{Request, Nothing, ExtendBy, ReadOf, LetBe, ShowOf, ImageOf, TakeOf, GiveAt, PokeAt, PeekAt, DmaAt, SetRegOf, RegsOf, ArmAt, SessionOf}
+use Rattle.expr_text.specs.declared.name.TheConstants.{LONGEST_NAME}
 use Rattle.script_text.specs.declared.line.Event.{Event}
-use Rattle.script_text.specs.declared.line.Event.TheVariants.{Blank, Extend, Read, Let, Show, Image, Take, Give, Poke, Peek, Dma}
+use Rattle.script_text.specs.declared.line.Event.TheVariants.{Blank, Extend, Read, Let, Show, Image, Take, Give, Poke, Peek, Dma, SetReg, Regs, Arm, Session}
 use Rattle.script_text.specs.declared.line.LineError.{LineError}
 use Rattle.script_text.specs.declared.line.LineError.TheVariants.{Fault, NoMemory}
 use Rattle.script_text.specs.declared.line.LineFault.{LineFault}
@@ -20,6 +21,11 @@ request_of (Give at) = GiveAt at
 request_of (Poke at bytes) = PokeAt at bytes
 request_of (Peek at len) = PeekAt at len
 request_of (Dma at bytes) = DmaAt at bytes
+request_of (SetReg reg n) = SetRegOf reg n
+request_of Regs = RegsOf
+request_of (Arm turn at bytes) = ArmAt turn at bytes
+request_of (Session image inputs nonce var) =
+    SessionOf image inputs nonce (option_map (λ name. name.bytes) var)
 
 -- the fault that an error stands for: none where memory ran out
 abbrev pub line_fault : LineError → Option LineFault
@@ -29,10 +35,16 @@ line_fault NoMemory = None
 -- 1 to 16 bytes
 pub record IsShortName (name : List ℕ) : Type 0 where
   pub some : 1 ≤ length name
-  pub short : length name ≤ 16
+  pub short : length name ≤ LONGEST_NAME
 
 -- the name that a request binds has 1 to 16 bytes
 abbrev pub HasShortName : Request → Type 0
 HasShortName (LetBe name value) = IsShortName name
 HasShortName (ImageOf name job entry budget code) = IsShortName name
+HasShortName (SessionOf image inputs nonce (Some name)) = IsShortName name
 HasShortName _ = Unit {0}
+
+-- the register that a request sets is one of the eight
+abbrev pub HasRegister : Request → Type 0
+HasRegister (SetRegOf reg n) = reg < 8
+HasRegister _ = Unit {0}

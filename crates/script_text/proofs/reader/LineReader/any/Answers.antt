@@ -12,7 +12,8 @@ returns-then-self-clause-any g c =
       taken = [];
       consumed = Consumes-nil _;
       after = (
-        λ none. absurd (omega (arith, length-between r.buffer.items r.start r.end c.self.invariant.within, ap length (held ∙ sym (append-nil _) ∙ none))),
+        λ none. absurd
+            (omega (arith, length-between r.buffer.items r.start r.end c.self.invariant.within, ap length (held ∙ sym (append-nil _) ∙ none))),
         ap (λ (h : Held). h.bytes) c.forget_line.ensures ∙ sym (append-nil _),
         ap (λ (h : Held). h.line) c.forget_line.ensures,
       );

@@ -1,0 +1,9 @@
+pub mod AllOfLemmas
+pub mod ExpressionLemmas
+pub mod NumberLemmas
+pub mod PieceLemmas
+pub mod PlainLemmas
+pub mod SpellingLemmas
+pub mod ValueLemmas
+pub mod VariableLemmas
+pub mod WindowLemmas

@@ -1,0 +1,82 @@
+-- What a function answers, where memory runs out only where it may.
+use Rattle.std.proofs.Common.{◌≡◌, inl, inr, ℕ, List, true, false, refl, ap, subst, ◌∙◌}
+use Rattle.std.specs.Prelude.{Result, Ok, Err, IsOk}
+use Rattle.flk_base.specs.Checks.{Gives}
+use Rattle.script_text.specs.Lines.{words, content}
+use Rattle.script_text.specs.Grammar.{Request, Nothing, Meanings, row, request, is_comment, SpellsCommand, SpellsWords}
+use Rattle.script_text.specs.Reading.{IsEarly, IsLate, may_allocate, words_may_allocate, reading}
+use Rattle.script_text.specs.Seen.{line_fault, request_of}
+use Rattle.script_text.specs.declared.command.Command.{Command}
+use Rattle.script_text.specs.declared.command.Command.TheVariants.{Extend}
+use Rattle.script_text.specs.declared.line.Event.{Event}
+use Rattle.script_text.specs.declared.line.Event.TheVariants as event
+use Rattle.script_text.specs.declared.line.LineFault.{LineFault}
+use Rattle.script_text.specs.declared.line.LineError.{LineError}
+use Rattle.script_text.specs.declared.line.LineError.TheVariants.{Fault, NoMemory}
+use Rattle.script_text.proofs.ReadingLemmas.{found, listed, each_length}
+
+-- the words that spell a command's request may allocate as the command does
+pub words_of : (asked : Request) (line : List (List ℕ)) (s : SpellsCommand asked line)
+    → words_may_allocate line ≡ may_allocate (row s.command).kinds
+words_of asked line s =
+    let count = each_length (row s.command).kinds s.others s.arguments s.each in
+    rw (s.whole, count, (listed s.command).found) refl
+
+asks_something : (command : Command) (arguments : Meanings (row command).kinds)
+    → Nothing ≡ request command arguments → ⊥
+asks_something Extend arguments h = cc
+asks_something _ arguments h = cc
+
+blank_event : (x : Event) → request_of x ≡ Nothing → x ≡ event.Blank
+blank_event event.Blank h = refl
+blank_event _ h = cc
+
+-- a comment and a line without words allocate nothing
+comment_words : (line : List (List ℕ)) → SpellsWords Nothing line → words_may_allocate line ≡ true
+    → is_comment line ≡ false → ⊥
+comment_words line (inl none) may other = let is = none.1 in cc
+comment_words line (inr s) may other = asks_something s.command s.arguments s.asks
+
+-- an early fault is answered
+pub early_if : {X : Type 0} (view : X
+    → Request) (r : Result X LineError) (read : Result Request LineFault)
+    → Gives line_fault view r read → (r ≡ Err NoMemory → IsLate read)
+    → (why : LineFault) → IsEarly why → read ≡ Err why → r ≡ Err (Fault why)
+early_if view (Ok x) read h late why early is = cc
+early_if view (Err (Fault e)) read h late why early is =
+    let same : e ≡ why = cc in ap (λ f. Err (Fault f)) same
+early_if view (Err NoMemory) read h late why early is =
+    absurd (let Late : Result Request LineFault
+    → Type 0 = λ x. IsLate x in let no : Late (Err why) = subst Late is (late refl) in no early)
+
+-- a request that is read is given, where memory can't run out
+given_if : {X : Type 0} (view : X
+    → Request) (r : Result X LineError) (read : Result Request LineFault) (asked : Request)
+    → Gives line_fault view r read
+    → (r ≡ Err NoMemory → ⊥) → read ≡ Ok asked → (x : X) × (r ≡ Ok x) × (view x ≡ asked)
+given_if view (Ok x) read asked h never is = (x, refl, cc)
+given_if view (Err (Fault e)) read asked h never is = absurd (cc)
+given_if view (Err NoMemory) read asked h never is = absurd (never refl)
+
+is_ok_at : {X E : Type 0} (r : Result X E) (x : X) → r ≡ Ok x → IsOk r
+is_ok_at r x e = rw e refl
+
+module _ (line : List ℕ) (r : Result Event LineError)
+    (exact : Gives line_fault request_of r (reading line))
+    (asks : r ≡ Err NoMemory → words_may_allocate (words (content line)) ≡ true) where
+  -- a command with neither a name nor an expression after it allocates nothing
+  pub plain_if : (asked : Request) (s : SpellsCommand asked (words (content line)))
+      → may_allocate (row s.command).kinds ≡ false → reading line ≡ Ok asked → IsOk r
+  plain_if asked s plain is =
+      let given = given_if request_of r (reading line) asked exact
+      (λ out. let yes = asks out in let same = words_of asked (words (content line)) s in cc) is in
+      is_ok_at r given.0 given.1
+
+  -- nor does a line that asks for nothing
+  pub blank_if : (r ≡ Err NoMemory → is_comment (words (content line)) ≡ false)
+      → reading line ≡ Ok Nothing → r ≡ Ok event.Blank
+  blank_if other is =
+      let given = given_if request_of r (reading line) Nothing exact
+      (λ out. comment_words (words (content line)) (found line Nothing is).spelled (asks out)
+      (other out)) is in
+      given.1 ∙ ap Ok (blank_event given.0 given.2)

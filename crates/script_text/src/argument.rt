@@ -1,0 +1,302 @@
+// The words after a command's, read by their kinds, and the event that they make.
+ghost use Rattle.std.specs.Prelude.{◌≡◌, ◌≢◌, ◌≤◌, [], ◌∷◌, ◌++◌, ◌+◌, true, Some, length, Err};
+ghost use Rattle.flk_base.specs.Checks.{Gives};
+ghost use Rattle.script_text.specs.Arguments.{IsOf, ANumber, AName, AnImageKind, ARegister, AnExpression, seen_argument, first_kind, value_in, values_in, request_from};
+ghost use Rattle.script_text.specs.Grammar.{row, register_of};
+ghost use Rattle.script_text.specs.Reading.{is_kept, may_allocate};
+ghost use Rattle.script_text.specs.Seen.{line_fault, request_of};
+ghost use Rattle.script_text.specs.declared.command.Kind.TheVariants.{Number, Name, ImageKind, Register, Expression};
+
+use crate::command::{Command, Kind, MOST_ARGUMENTS};
+use crate::line::{Event, LineError, LineFault};
+use crate::words::Words;
+use arrayvec::ArrayVec;
+use expr_text::{Expr, Unread, is_name, number_of};
+use flk_base::Bytes;
+use std::alloc::Global;
+use std::marker::Model;
+
+/// The names of the registers of the processor, by their numbers.
+const REGISTERS: [&[u8]; 8] = [
+    b"eax", b"ecx", b"edx", b"ebx", b"esp", b"ebp", b"esi", b"edi",
+];
+
+/// What a word stands for, by its kind.
+#[derive(Drop)]
+pub(crate) enum Argument {
+    Number(u32),
+    Name(Bytes),
+    ImageKind(bool),
+    Register(u8),
+    Expression(Expr),
+}
+
+impl Default for Argument {
+    fn default() -> Argument {
+        Argument::Number(0)
+    }
+}
+
+/// The arguments of a command that are left, which allocate nothing themselves. Contracts see what
+/// their words stand for.
+#[derive(Drop)]
+pub(crate) struct Arguments {
+    items: ArrayVec<Argument, MOST_ARGUMENTS>,
+}
+
+impl Model for Arguments {
+    ghost use Rattle.std.specs.Prelude.{List, map};
+    ghost use Rattle.script_text.specs.Arguments.{Value as Meant, seen_argument};
+
+    ghost Value = { List Meant };
+
+    ghost view = { λ a. map seen_argument a.items.items };
+}
+
+impl Arguments {
+    // None yet.
+    fn new() -> Arguments
+        ensures { result ≡ [] }
+    {
+        Arguments {
+            items: ArrayVec::new(),
+        }
+    }
+
+    // One more, for which there is room.
+    fn push(&mut self, argument: Argument)
+        requires { length self.old + 1 ≤ MOST_ARGUMENTS }
+        ensures { self.new ≡ self.old ++ seen_argument argument ∷ [] }
+    {
+        self.items.push(argument);
+    }
+
+    // The next one.
+    fn next(&mut self) -> Argument
+        requires { 1 ≤ length self.old }
+        ensures { self.old ≡ seen_argument result ∷ self.new }
+    {
+        self.items.remove(0)
+    }
+
+    fn number(&mut self) -> u32
+        requires { first_kind self.old ≡ Some Number }
+        ensures { self.old ≡ ANumber result ∷ self.new }
+    {
+        match self.next() {
+            Argument::Number(number) => number,
+            _ => unreachable!(),
+        }
+    }
+
+    fn name(&mut self) -> Bytes
+        requires { first_kind self.old ≡ Some Name }
+        ensures { self.old ≡ AName result.bytes ∷ self.new }
+    {
+        match self.next() {
+            Argument::Name(name) => name,
+            _ => unreachable!(),
+        }
+    }
+
+    fn image_kind(&mut self) -> bool
+        requires { first_kind self.old ≡ Some ImageKind }
+        ensures { self.old ≡ AnImageKind result ∷ self.new }
+    {
+        match self.next() {
+            Argument::ImageKind(job) => job,
+            _ => unreachable!(),
+        }
+    }
+
+    fn register(&mut self) -> u8
+        requires { first_kind self.old ≡ Some Register }
+        ensures { self.old ≡ ARegister result ∷ self.new }
+    {
+        match self.next() {
+            Argument::Register(reg) => reg,
+            _ => unreachable!(),
+        }
+    }
+
+    fn expression(&mut self) -> Expr
+        requires { first_kind self.old ≡ Some Expression }
+        ensures { self.old ≡ AnExpression result ∷ self.new }
+    {
+        match self.next() {
+            Argument::Expression(expression) => expression,
+            _ => unreachable!(),
+        }
+    }
+}
+
+/// The arguments of these kinds: each from the left, of as many words.
+pub(crate) fn read_arguments(
+    alloc: Global,
+    kinds: &[Kind],
+    mut words: Words<'_>,
+) -> Result<Arguments, LineError>
+    requires few { length kinds.now ≤ MOST_ARGUMENTS }
+    requires counted { length words ≡ length kinds.now }
+    ensures exact { Gives line_fault
+        (λ arguments. arguments) result (values_in kinds.now words.entry) }
+    ensures kept { result ≡ Err LineError.NoMemory → may_allocate kinds.now ≡ true }
+{
+    let mut arguments = Arguments::new();
+    for kind in kinds {
+        let Some(word) = words.next() else {
+            unreachable!()
+        };
+        arguments.push(argument_in(alloc, *kind, word)?);
+    }
+    Ok(arguments)
+}
+
+fn argument_in(alloc: Global, kind: Kind, word: &[u8]) -> Result<Argument, LineError>
+    ensures exact { Gives line_fault seen_argument result (value_in kind word.now) }
+    ensures kept { result ≡ Err LineError.NoMemory → is_kept kind ≡ true }
+{
+    match kind {
+        Kind::Number => number_in(word),
+        Kind::Name => name_in(alloc, word),
+        Kind::ImageKind => image_kind_in(word),
+        Kind::Register => register_in(word),
+        Kind::Expression => expression_in(alloc, word),
+    }
+}
+
+fn number_in(word: &[u8]) -> Result<Argument, LineError>
+    ensures exact { Gives line_fault seen_argument result (value_in Number word.now) }
+    ensures kept { result ≢ Err LineError.NoMemory }
+{
+    match number_of(word) {
+        Some(number) => Ok(Argument::Number(number)),
+        None => Err(LineError::Fault(LineFault::Number)),
+    }
+}
+
+fn name_in(alloc: Global, word: &[u8]) -> Result<Argument, LineError>
+    ensures { Gives line_fault seen_argument result (value_in Name word.now) }
+{
+    if !is_name(word) {
+        return Err(LineError::Fault(LineFault::Name));
+    }
+    let mut name = Bytes::new(alloc);
+    match name.push_all(word) {
+        Ok(()) => Ok(Argument::Name(name)),
+        Err(_) => Err(LineError::NoMemory),
+    }
+}
+
+fn image_kind_in(word: &[u8]) -> Result<Argument, LineError>
+    ensures exact { Gives line_fault seen_argument result (value_in ImageKind word.now) }
+    ensures kept { result ≢ Err LineError.NoMemory }
+{
+    if word == b"pal".as_slice() {
+        Ok(Argument::ImageKind(false))
+    } else if word == b"job".as_slice() {
+        Ok(Argument::ImageKind(true))
+    } else {
+        Err(LineError::Fault(LineFault::Name))
+    }
+}
+
+#[tactic(auto, unfolding(crate::specs::Grammar::register_of))]
+fn register_of(word: &[u8]) -> Option<u8>
+    ensures { result ≡ register_of word.now }
+{
+    match REGISTERS.iter().position(|name| *name == word) {
+        Some(reg) => Some(reg as u8),
+        None => None,
+    }
+}
+
+fn register_in(word: &[u8]) -> Result<Argument, LineError>
+    ensures exact { Gives line_fault seen_argument result (value_in Register word.now) }
+    ensures kept { result ≢ Err LineError.NoMemory }
+{
+    match register_of(word) {
+        Some(reg) => Ok(Argument::Register(reg)),
+        None => Err(LineError::Fault(LineFault::Name)),
+    }
+}
+
+fn expression_in(alloc: Global, word: &[u8]) -> Result<Argument, LineError>
+    ensures { Gives line_fault seen_argument result (value_in Expression word.now) }
+{
+    match expr_text::expression_in(alloc, word) {
+        Ok(expression) => Ok(Argument::Expression(expression)),
+        Err(Unread::Spelling) => Err(LineError::Fault(LineFault::Expression)),
+        Err(Unread::NoMemory) => Err(LineError::NoMemory),
+    }
+}
+
+/// What a line asks for that has this command and these arguments.
+pub(crate) fn event_of(command: Command, mut arguments: Arguments) -> Event
+    requires { IsOf (row command).kinds arguments }
+    ensures { request_from command arguments ≡ Some (request_of result) }
+{
+    match command {
+        Command::Extend => Event::Extend {
+            r: arguments.number(),
+            text: arguments.expression(),
+        },
+        Command::Read => Event::Read {
+            r: arguments.number(),
+        },
+        Command::Let => Event::Let {
+            var: arguments.name(),
+            value: arguments.expression(),
+        },
+        Command::Show => Event::Show {
+            value: arguments.expression(),
+        },
+        Command::Image => Event::Image {
+            var: arguments.name(),
+            job: arguments.image_kind(),
+            entry: arguments.number(),
+            budget: arguments.number(),
+            code: arguments.expression(),
+        },
+        Command::Take => Event::Take {
+            n: arguments.number(),
+        },
+        Command::Give => Event::Give {
+            at: arguments.number(),
+        },
+        Command::Poke => Event::Poke {
+            at: arguments.number(),
+            bytes: arguments.expression(),
+        },
+        Command::Peek => Event::Peek {
+            at: arguments.number(),
+            len: arguments.number(),
+        },
+        Command::Dma => Event::Dma {
+            at: arguments.number(),
+            bytes: arguments.expression(),
+        },
+        Command::SetReg => Event::SetReg {
+            reg: arguments.register(),
+            n: arguments.number(),
+        },
+        Command::Regs => Event::Regs,
+        Command::Arm => Event::Arm {
+            turn: arguments.number(),
+            at: arguments.number(),
+            bytes: arguments.expression(),
+        },
+        Command::Session => Event::Session {
+            image: arguments.expression(),
+            inputs: arguments.expression(),
+            nonce: arguments.expression(),
+            var: None,
+        },
+        Command::SessionInto => Event::Session {
+            image: arguments.expression(),
+            inputs: arguments.expression(),
+            nonce: arguments.expression(),
+            var: Some(arguments.name()),
+        },
+    }
+}
