@@ -1,0 +1,164 @@
+//! The board.
+ghost use Rattle.std.specs.Prelude.{◌≡◌, ◌++◌, IfOk};
+ghost use Rattle.flk_base.specs.Plan.{ask};
+ghost use Rattle.flk_base.specs.Stop.{Ends, reported};
+ghost use Rattle.seal_device.specs.Commands.{Command};
+ghost use Rattle.seal_device.specs.Digests.{on_device};
+ghost use Rattle.seal_device.specs.Faults.{register_fault};
+ghost use Rattle.machine_memory.specs.Areas.{IsArea};
+ghost use Rattle.late_launch.specs.Boards.{blank_board, zero_registers, fused_device, fallen};
+
+use crate::dark::Dark;
+use crate::suspended::Suspended;
+use flk_base::{Fuse, NoMemory};
+use i386_profile::Cpu;
+use machine_memory::Memory;
+use region_pool::Ticket;
+use seal_device::{Device, RegisterFault};
+use std::alloc::Global;
+use std::marker::Model;
+
+/// A board: its device, its memory, the host's registers and its fuse. It must be spent. The device is reached
+/// by the commands of a host alone, and by a session's.
+pub struct Board {
+    device: Device,
+    /// Memory.
+    pub memory: Memory,
+    /// The host's registers.
+    pub registers: Cpu,
+    /// After how many steps of the device the power is lost.
+    pub fuse: Fuse,
+}
+
+impl Model for Board {
+    ghost use Rattle.late_launch.specs.Boards.{BoardParts};
+
+    ghost Value = { BoardParts };
+
+    ghost view = { λ b. record { device = b.device; memory = b.memory; registers = b.registers; fuse = b.fuse.left } };
+}
+
+/// All registers 0 and all flags clear.
+pub(crate) fn zero_registers() -> Cpu
+    ensures { result ≡ zero_registers }
+{
+    Cpu {
+        regs: [0; 8],
+        eip: 0,
+        cf: false,
+        zf: false,
+        sf: false,
+        of: false,
+    }
+}
+
+impl Board {
+    /// A board that was never used, without a fuse.
+    ///
+    /// # Errors
+    ///
+    /// Where there is no memory for its memory.
+    pub fn blank(alloc: Global) -> Result<Board, NoMemory>
+        ensures { IfOk result (λ board. board ≡ blank_board) }
+    {
+        match Memory::blank(alloc) {
+            Ok(memory) => Ok(Board {
+                device: Device::blank(),
+                memory,
+                registers: zero_registers(),
+                fuse: Fuse { left: None },
+            }),
+            Err(_) => Err(NoMemory),
+        }
+    }
+
+    /// The board of these parts.
+    pub(crate) fn from_parts(device: Device, memory: Memory, registers: Cpu, fuse: Fuse) -> Board
+        ensures { result ≡ record { device = device; memory = memory; registers = registers; fuse = fuse.left } }
+    {
+        Board {
+            device,
+            memory,
+            registers,
+            fuse,
+        }
+    }
+
+    /// Extends register `r` by the text that `front` and `text` are together, in one step of the fuse.
+    ///
+    /// # Errors
+    ///
+    /// `PowerLost` where the fuse has no step left, and nothing changes; else `NoRegister` where there is no
+    /// such register, and the step is taken.
+    pub fn extend(&mut self, r: u32, front: &[u8], text: &[u8]) -> Result<(), RegisterFault>
+        ensures ends { Ends (reported register_fault RegisterFault.PowerLost)
+            (on_device (ask (Command.Extend r (front.now ++ text.now))) (fused_device self.old))
+            (fused_device self.new) result }
+        ensures memory { self.new.memory ≡ self.old.memory }
+        ensures registers { self.new.registers ≡ self.old.registers }
+    {
+        self.device.extend(r, front, text, &mut self.fuse)
+    }
+
+    /// The value of register `r`, in one step of the fuse.
+    ///
+    /// # Errors
+    ///
+    /// Those of `extend`.
+    pub fn read_register(&mut self, r: u32) -> Result<[u8; 20], RegisterFault>
+        ensures ends { Ends (reported register_fault RegisterFault.PowerLost)
+            (on_device (ask (Command.ReadRegister r)) (fused_device self.old))
+            (fused_device self.new) result }
+        ensures memory { self.new.memory ≡ self.old.memory }
+        ensures registers { self.new.registers ≡ self.old.registers }
+    {
+        self.device.read_register(r, &mut self.fuse)
+    }
+
+    /// The host stands still, and its registers are saved; `area` is where a session is to run.
+    pub fn suspend(self, area: Ticket) -> Suspended
+        requires { IsArea self.memory.marks area }
+        ensures { result ≡ record { board = self; area = area } }
+    {
+        Suspended::new(self, area)
+    }
+
+    /// The power is lost, with no session begun.
+    pub fn fall(self) -> Dark
+        ensures { result ≡ fallen self }
+    {
+        let Board {
+            device,
+            memory,
+            registers: _,
+            fuse: _,
+        } = self;
+        Dark::new(device, memory)
+    }
+
+    /// Ends the board.
+    pub fn scrap(self) {
+        let Board {
+            device: _,
+            memory: _,
+            registers: _,
+            fuse: _,
+        } = self;
+    }
+
+    /// The parts of the board.
+    pub(crate) fn part(self) -> (Device, Memory, Cpu, Fuse)
+        ensures device { result.0 ≡ self.device }
+        ensures memory { result.1 ≡ self.memory }
+        ensures registers { result.2 ≡ self.registers }
+        ensures fuse { result.3.left ≡ self.fuse }
+    {
+        let Board {
+            device,
+            memory,
+            registers,
+            fuse,
+        } = self;
+        (device, memory, registers, fuse)
+    }
+}

@@ -1,0 +1,4 @@
+pub mod Decoding
+pub mod Loans
+pub mod PalLemmas
+pub mod ServeLemmas

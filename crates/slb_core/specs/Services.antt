@@ -1,0 +1,115 @@
+-- What a turn comes to, and the services that launched code calls by `int 0x80`.
+use Rattle.std.specs.Prelude.{ℕ, ◌+◌, ◌==◌, nat_le, Bool, List, [], ◌++◌, codes, Option, Some, None, Result, Ok, Err, if◌then◌else◌}
+use Rattle.flk_base.specs.Plan.{Plan, Return, Ask}
+use Rattle.i386_profile.specs.declared.operands.Reg.TheVariants.{Eax, Ecx, Ebx, Edi}
+use Rattle.i386_profile.specs.declared.cpu.FaultKind.TheVariants.{Instruction, Segment}
+use Rattle.i386_profile.specs.Flags.{get}
+use Rattle.i386_profile.specs.Effects.{State, Outcome, GoesOn, CallsGate, Faults, with_reg}
+use Rattle.machine_memory.specs.Writes.{part, written}
+use Rattle.seal_device.specs.Commands.{Command, Extend, ReadRegister, Reply, launch_register}
+use Rattle.seal_device.specs.Refusals.Register as registers
+use Rattle.late_launch.specs.declared.ends.End.{End}
+use Rattle.late_launch.specs.declared.ends.End.TheVariants.{Done, Fault}
+use Rattle.slb_core.specs.Turns.{executed}
+
+-- what a turn comes to: the next turn, from this state, or the session's end, with these outputs
+pub data TurnEnd : Type 0 where
+  Next : State → TurnEnd
+  Over : (end : End) → (outputs : List ℕ) → TurnEnd
+
+-- the session ends with this fault, and without outputs
+abbrev pub fault_segment : TurnEnd
+fault_segment = Over (Fault Segment) []
+
+abbrev pub fault_instruction : TurnEnd
+fault_instruction = Over (Fault Instruction) []
+
+-- how many bytes the segment has: it is the region
+abbrev pub segment_size : ℕ
+segment_size = 65536
+
+-- so many bytes from an offset on lie in the segment
+abbrev pub lies_in : ℕ → ℕ → Bool
+lies_in at count = nat_le (at + count) segment_size
+
+-- the state in which eax is the answer of a service: 0, or the number of its refusal
+abbrev pub answered : State → ℕ → State
+answered s number = with_reg s Eax number
+
+-- ---- the services
+
+-- where the outputs lie in the segment
+abbrev pub outputs_offset : ℕ
+outputs_offset = 61440
+
+-- the most bytes that inputs or outputs may have
+abbrev pub longest_outputs : ℕ
+longest_outputs = 4096
+
+-- to end: ebx is how many bytes of outputs there are
+abbrev pub to_end : State → TurnEnd
+to_end s =
+    if nat_le (get s.cpu Ebx) longest_outputs
+    then Over (Done (get s.cpu Ebx)) (part s.bytes outputs_offset (get s.cpu Ebx))
+    else fault_segment
+
+-- to extend register 17: the text lies at ebx, and has ecx bytes
+abbrev pub to_extend : State → Plan Command Reply TurnEnd
+to_extend s =
+    if lies_in (get s.cpu Ebx) (get s.cpu Ecx)
+    then Ask (Extend launch_register (codes "pal" ++ part s.bytes (get s.cpu Ebx) (get s.cpu Ecx)))
+    (λ reply. Return (Next (answered s 0)))
+    else Return fault_segment
+
+-- the value of a register at edi, or the refusal's number
+abbrev pub shown : State → Result (List ℕ) registers.Refusal → State
+shown s (Ok value) = answered (record s { bytes = written s.bytes (get s.cpu Edi) value }) 0
+shown s (Err registers.NoRegister) = answered s 1
+
+-- to read the register of number ebx: its 20 bytes come to edi
+abbrev pub to_read : State → Plan Command Reply TurnEnd
+to_read s =
+    if lies_in (get s.cpu Edi) 20
+    then Ask (ReadRegister (get s.cpu Ebx)) (λ reply. Return (Next (shown s reply)))
+    else Return fault_segment
+
+-- the services, by their numbers
+pub data Service : Type 0 where
+  ToEnd : Service
+  ToExtend : Service
+  ToRead : Service
+
+abbrev pub service_of : ℕ → Option Service
+service_of number =
+    if number == 0 then Some ToEnd
+    else if number == 1 then Some ToExtend
+    else if number == 2 then Some ToRead
+    else None
+
+-- what a service comes to
+abbrev pub comes_to : Option Service → State → Plan Command Reply TurnEnd
+comes_to (Some ToEnd) s = Return (to_end s)
+comes_to (Some ToExtend) s = to_extend s
+comes_to (Some ToRead) s = to_read s
+comes_to None s = Return fault_instruction
+
+-- ---- turns
+
+-- the number of the gate that calls a service
+abbrev pub service_gate : ℕ
+service_gate = 128
+
+-- what a gate comes to: the service that eax names; there is no other gate
+abbrev pub gate : ℕ → State → Plan Command Reply TurnEnd
+gate number s =
+    if number == service_gate then comes_to (service_of (get s.cpu Eax)) s else Return fault_instruction
+
+-- what an instruction comes to
+abbrev pub turned : Outcome → Plan Command Reply TurnEnd
+turned (GoesOn s) = Return (Next s)
+turned (CallsGate number s) = gate number s
+turned (Faults kind) = Return (Over (Fault kind) [])
+
+-- a turn: the instruction at eip
+abbrev pub turn : State → Plan Command Reply TurnEnd
+turn s = turned (executed s)

@@ -1,0 +1,10 @@
+//! The core of a session: it runs the launched code turn by turn, serves its gates, and closes the session.
+#![tactic(auto)]
+
+mod pal;
+mod services;
+mod serving;
+mod spans;
+mod turn;
+
+pub use serving::serve;
