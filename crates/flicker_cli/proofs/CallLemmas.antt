@@ -2,21 +2,27 @@
 use Rattle.std.proofs.Common.{◌≡◌, ◌⊎◌, inl, inr, ℕ, ◌+◌, ◌≤◌, Bool, true, false, List, [], ◌++◌, length, refl, sym, ap, ◌∙◌, subst, arith, append-nil, length-append}
 use Rattle.std.specs.Prelude.{Option, Some, None, nat_lt}
 use Rattle.std.specs.FinMap.{empty}
+use Rattle.std.specs.Option.{option_map}
 use Rattle.std.specs.Io.KnownBytes.{Consumes}
 use Rattle.std.proofs.KnownBytes.{Consumes-nil}
 use Rattle.std.proofs.lemmas.Bool.Decides.{nat_tests}
-use Rattle.region_pool.specs.Spans.{Span}
 use Rattle.flk_base.specs.Causes.{Rose}
 use Rattle.flk_base.specs.Streams.{Intake, Output, Takes, IsSettled}
-use Rattle.flk_base.specs.RunEnds.{HasCauses, mapped}
+use Rattle.flk_base.specs.RunEnds.{HasCauses, mapped_end}
 use Rattle.flk_base.specs.declared.run_end.RunEnd.{RunEnd}
 use Rattle.flk_base.specs.declared.run_end.RunEnd.TheVariants.{Done, Bad, ReadFault, Cut, NoMemory}
 use Rattle.flk_base.specs.declared.streams.PutFault.{PutFault}
 use Rattle.flk_base.specs.declared.streams.PutFault.TheVariants as put
 use Rattle.flk_run.specs.declared.run.ScriptFault.{ScriptFault}
-use Rattle.script_text.specs.Variables.{Table}
-use Rattle.flk_run.specs.declared.board.SimDisk.{SimDisk}
-use Rattle.flk_run.specs.Parts.{BoardParts, Machine, Experiment}
+use Rattle.seal_device.specs.Digests.{digests}
+use Rattle.seal_device.specs.Lists.{lists}
+use Rattle.seal_device.specs.Rules.{Rules}
+use Rattle.late_launch.specs.Boards.{BoardParts}
+use Rattle.flk_run.specs.Agreement.{AgreesByLists}
+use Rattle.flk_run.specs.Platform.{Platform, ListPlatform, DigestPlatform, platform_digested, at_rest}
+use Rattle.flk_run.specs.declared.disk.SimDisk.{SimDisk}
+use Rattle.flk_run.specs.Parts.{Experiment, platform_of, known_if, platform}
+use Rattle.flk_run.proofs.AgreementLemmas.{run_from}
 use Rattle.flk_run.specs.Runs.{Ran, AllDone}
 use Rattle.flk_base.proofs.TakenLemmas.{the_end, says_end}
 use Rattle.flk_filters.specs.declared.fault.BadInput.{BadInput}
@@ -30,7 +36,7 @@ use Rattle.flicker_cli.specs.declared.words.Command.TheVariants.{Run, Filter}
 use Rattle.flicker_cli.specs.declared.fault.Fault.{Fault}
 use Rattle.flicker_cli.specs.declared.fault.Fault.TheVariants.{Words, Script, Input}
 use Rattle.flicker_cli.specs.Messages.{message_of, fault_status}
-use Rattle.flicker_cli.specs.Calls.{with_names, ScriptRan, InputRan, CallRan, Reported, status_after, Answered}
+use Rattle.flicker_cli.specs.Calls.{ScriptRan, InputRan, CallRan, Reported, status_after, Answered}
 use Rattle.flicker_cli.specs.Texts.{script_end, input_end, end_on, IsText}
 
 -- ---- what the bytes taken are
@@ -54,9 +60,9 @@ judged_words before now same = record {
 }
 
 -- a script
-judged_script : (source source' out out' : Option (List ℕ)) (from at : Experiment) (bad : Option ScriptFault) → AllDone source source' out out' from at bad
+judged_script : {H : Type 0} (R : Rules H) (source source' out out' : Option (List ℕ)) (old new : Option (Platform H)) (bad : Option ScriptFault) → AllDone R source source' out out' old new bad
     → (script_end bad ≡ Done → bad ≡ None) → Judged (Some Run) (script_end bad) source source'
-judged_script source source' out out' from at bad d none = record {
+judged_script R source source' out out' old new bad d none = record {
   taken = d.taken;
   ended = d.ended;
   takes = d.takes;
@@ -113,19 +119,19 @@ IsTextEnd Done = Unit {0}
 IsTextEnd (Bad fault) = Unit {0}
 IsTextEnd other = ⊥
 
-module _ (source : Intake) (out : Output) (from at : Machine) (spans : List Span) where
-  by_script : (end : RunEnd Fault) → IsTextEnd end → ScriptRan end source out from at spans → Judged (Some Run) end source.old.left source.new.left
+module _ {H : Type 0} (R : Rules H) (source : Intake) (out : Output) (old new : Option (Platform H)) where
+  by_script : (end : RunEnd Fault) → IsTextEnd end → ScriptRan R end source out old new → Judged (Some Run) end source.old.left source.new.left
   by_script end is d = subst (λ (e : RunEnd Fault). Judged (Some Run) e source.old.left source.new.left) (sym d.is) (how_it_ran d.how (subst IsTextEnd d.is is) d.ran) where
-    how_it_ran : (how : RunEnd ScriptFault) → IsTextEnd (mapped Script how) → Ran how source out (with_names from empty []) (with_names at d.variables spans) → Judged (Some Run) (mapped Script how) source.old.left source.new.left
-    how_it_ran Done is ran = judged_script source.old.left source.new.left out.old.contents out.new.contents _ _ None ran (λ e. refl)
-    how_it_ran (Bad first) is ran = judged_script source.old.left source.new.left out.old.contents out.new.contents _ _ (Some first) ran (λ e. cc)
+    how_it_ran : (how : RunEnd ScriptFault) → IsTextEnd (mapped_end Script how) → Ran R how source out old d.reached → Judged (Some Run) (mapped_end Script how) source.old.left source.new.left
+    how_it_ran Done is ran = judged_script R source.old.left source.new.left out.old.contents out.new.contents _ _ None ran (λ e. refl)
+    how_it_ran (Bad first) is ran = judged_script R source.old.left source.new.left out.old.contents out.new.contents _ _ (Some first) ran (λ e. cc)
     how_it_ran ReadFault is ran = absurd is
     how_it_ran (Cut fault) is ran = absurd is
     how_it_ran NoMemory is ran = absurd is
 
-  by_filter : (which : Which) (end : RunEnd Fault) → IsTextEnd end → InputRan which end source out from at spans → Judged (Some (Filter which)) end source.old.left source.new.left
+  by_filter : (which : Which) (end : RunEnd Fault) → IsTextEnd end → InputRan which end source out old new → Judged (Some (Filter which)) end source.old.left source.new.left
   by_filter which end is d = subst (λ (e : RunEnd Fault). Judged (Some (Filter which)) e source.old.left source.new.left) (sym d.is) (how_it_ran d.how (subst IsTextEnd d.is is) d.ran) where
-    how_it_ran : (how : RunEnd BadInput) → IsTextEnd (mapped Input how) → FilterRan which how source out → Judged (Some (Filter which)) (mapped Input how) source.old.left source.new.left
+    how_it_ran : (how : RunEnd BadInput) → IsTextEnd (mapped_end Input how) → FilterRan which how source out → Judged (Some (Filter which)) (mapped_end Input how) source.old.left source.new.left
     how_it_ran Done is ran = judged_filtered which source.old.left source.new.left out.old.contents out.new.contents ran
     how_it_ran (Bad bad) is ran = judged_refused which source.old.left source.new.left out.old.contents out.new.contents bad ran
     how_it_ran ReadFault is ran = absurd is
@@ -133,57 +139,70 @@ module _ (source : Intake) (out : Output) (from at : Machine) (spans : List Span
     how_it_ran NoMemory is ran = absurd is
 
   -- the end of a call is that of the bytes taken
-  pub judged_call : (task : Option Command) (end : RunEnd Fault) → IsTextEnd end → CallRan task end source out from at spans → Judged task end source.old.left source.new.left
+  pub judged_call : (task : Option Command) (end : RunEnd Fault) → IsTextEnd end → CallRan R task end source out old new → Judged task end source.old.left source.new.left
   judged_call None end is ran = subst (λ (e : RunEnd Fault). Judged None e source.old.left source.new.left) (sym ran.0) (judged_words source.old.left source.new.left ran.1.unread)
   judged_call (Some Run) end is ran = by_script end is ran
   judged_call (Some (Filter which)) end is ran = by_filter which end is ran
 
   -- only words that are no command end with them
-  pub no_command : (task : Option Command) (end : RunEnd Fault) → CallRan task end source out from at spans → end ≡ Bad Words → task ≡ None
+  pub no_command : (task : Option Command) (end : RunEnd Fault) → CallRan R task end source out old new → end ≡ Bad Words → task ≡ None
   no_command None end ran words = refl
   no_command (Some Run) end ran words = absurd (never_script ran.how (sym ran.is ∙ words)) where
-    never_script : (how : RunEnd ScriptFault) → mapped Script how ≡ Bad Words → ⊥
+    never_script : (how : RunEnd ScriptFault) → mapped_end Script how ≡ Bad Words → ⊥
     never_script Done e = cc
     never_script (Bad first) e = cc
     never_script ReadFault e = cc
     never_script (Cut fault) e = cc
     never_script NoMemory e = cc
   no_command (Some (Filter which)) end ran words = absurd (never_filter ran.how (sym ran.is ∙ words)) where
-    never_filter : (how : RunEnd BadInput) → mapped Input how ≡ Bad Words → ⊥
+    never_filter : (how : RunEnd BadInput) → mapped_end Input how ≡ Bad Words → ⊥
     never_filter Done e = cc
     never_filter (Bad bad) e = cc
     never_filter ReadFault e = cc
     never_filter (Cut fault) e = cc
     never_filter NoMemory e = cc
 
-  pub words_end : (end : RunEnd Fault) → CallRan None end source out from at spans → end ≡ Bad Words
+  pub words_end : (end : RunEnd Fault) → CallRan R None end source out old new → end ≡ Bad Words
   words_end end ran = ran.0
 
 -- ---- calls
 
--- an experiment by its parts
-pub same_experiment : (e : Experiment) (board : BoardParts) (disk : SimDisk) (variables : Table) (spans : List Span) → e.machine.board ≡ board → e.machine.disk ≡ disk → e.variables ≡ variables → e.spans ≡ spans
-    → e ≡ with_names (record { board = board; disk = disk }) variables spans
-same_experiment e board disk variables spans b d v s =
-    ap (λ (x : BoardParts). with_names (record { board = x; disk = e.machine.disk }) e.variables e.spans) b
-    ∙ ap (λ (x : SimDisk). with_names (record { board = board; disk = x }) e.variables e.spans) d
-    ∙ ap (λ (x : Table). with_names (record { board = board; disk = disk }) x e.spans) v
-    ∙ ap (λ (x : List Span). with_names (record { board = board; disk = disk }) variables x) s
-
--- a run as that of a call
-pub script_ran : (how : RunEnd ScriptFault) (end : RunEnd Fault) (source : Intake) (out : Output) (old new : Experiment) (from at : Machine) (spans : List Span)
-    → end ≡ mapped Script how → old ≡ with_names from empty [] → new ≡ with_names at new.variables spans → Ran how source out old new → ScriptRan end source out from at spans
-script_ran how end source out old new from at spans is begun left ran = record {
-  how = how;
-  is = is;
-  variables = new.variables;
-  ran = subst (λ (e : Experiment). Ran how source out (with_names from empty []) e) left (subst (λ (e : Experiment). Ran how source out e new) begun ran);
-}
-
 -- memory ran out before anything was begun
-pub no_room : (command : Command) (source : Intake) (out : Output) (from : Machine) → source.IsUntouched → out.new.contents ≡ out.old.contents → CallRan (Some command) NoMemory source out from from []
-no_room Run source out from same unwritten = record { how = NoMemory; is = refl; variables = empty; ran = inl (same, record { unwritten = unwritten; kept = refl }) }
-no_room (Filter which) source out from same unwritten = record { how = NoMemory; is = refl; ran = inl (same, unwritten); kept = refl; none = refl }
+pub no_room : {H : Type 0} (R : Rules H) (command : Command) (source : Intake) (out : Output) (platform : Option (Platform H)) → platform ≡ option_map at_rest platform → source.IsUntouched → out.new.contents ≡ out.old.contents
+    → CallRan R (Some command) NoMemory source out platform platform
+no_room R Run source out platform unnamed same unwritten = record { how = NoMemory; is = refl; reached = platform; ran = inl (same, record { unwritten = unwritten; kept = refl }); left = unnamed }
+no_room R (Filter which) source out platform unnamed same unwritten = record { how = NoMemory; is = refl; ran = inl (same, unwritten); kept = refl }
+
+-- a platform with no name bound is as it is without names
+pub no_names : (untaken : Bool) (board : BoardParts) (disk : SimDisk) → known_if untaken (platform_of board [] disk empty) ≡ option_map at_rest (known_if untaken (platform_of board [] disk empty))
+no_names true board disk = refl
+no_names false board disk = refl
+
+-- a script that ran on the platform of a board left what is known of the platform of the board, disk and spans that are
+-- handed back
+pub names_given_up : (untaken : Bool) (new : Experiment) → new.untaken ≡ untaken → known_if untaken (platform_of new.board new.spans new.disk empty) ≡ option_map at_rest (platform new)
+names_given_up true new same = rw same refl
+names_given_up false new same = rw same refl
+
+-- what a call did by digests it did by lists
+pub call_by_lists : (task : Option Command) (end : RunEnd Fault) (source : Intake) (out : Output) (p : ListPlatform) (old new : Option DigestPlatform) → old ≡ Some (platform_digested p) → CallRan digests task end source out old new
+    → AgreesByLists (CallRan lists task end source out) p new
+call_by_lists None end source out p old new stands ran = record { left = p; stands = ran.1.kept ∙ stands; comes = (ran.0, record { unasked = ran.1.unasked; unread = ran.1.unread; unwritten = ran.1.unwritten; kept = refl }) }
+call_by_lists (Some Run) end source out p old new stands ran =
+    let again = run_from ran.how source out p old ran.reached stands ran.ran in
+    record {
+      left = at_rest again.left;
+      stands = ran.left ∙ ap (option_map at_rest) again.stands;
+      comes = record { how = ran.how; is = ran.is; reached = Some again.left; ran = again.comes; left = refl };
+    }
+call_by_lists (Some (Filter which)) end source out p old new stands ran = record { left = p; stands = ran.kept ∙ stands; comes = record { how = ran.how; is = ran.is; ran = ran.ran; kept = refl } }
+
+-- what a call answered by digests it answered by lists
+pub answered_by_lists : (task : Option Command) (status : ℕ) (source : Intake) (out err : Output) (p : ListPlatform) (old new : Option DigestPlatform) → old ≡ Some (platform_digested p) → Answered digests task status source out err old new
+    → AgreesByLists (Answered lists task status source out err) p new
+answered_by_lists task status source out err p old new stands a =
+    let again = call_by_lists task a.end source out p old new stands a.ran in
+    record { left = again.left; stands = again.stands; comes = record { end = a.end; cut = a.cut; ran = again.comes; caused = a.caused; reported = a.reported; answer = a.answer } }
 
 -- ---- statuses
 
@@ -269,12 +288,12 @@ no_fault task content fault (Some rest) j good =
     let same : end_on task (j.taken ++ rest) true ≡ Done = ap (λ bytes. end_on task bytes true) (sym whole) ∙ good in
     cc
 
-module _ (source : Intake) (out err : Output) (from at : Machine) (spans : List Span) where
+module _ {H : Type 0} (R : Rules H) (source : Intake) (out err : Output) (old new : Option (Platform H)) where
   -- a call whose status is 0, 1 or 2
-  pub text_of : (task : Option Command) (status : ℕ) → Answered task status source out err from at spans → status ≤ 2 → IsText task status source err
+  pub text_of : (task : Option Command) (status : ℕ) → Answered R task status source out err old new → status ≤ 2 → IsText task status source err
   text_of task status a few =
       let w = few_after a.end a.cut (subst (λ (n : ℕ). n ≤ 2) a.answer few) in
-      let j = judged_call source out from at spans task a.end w.0 a.ran in
+      let j = judged_call R source out old new task a.end w.0 a.ran in
       let said : Reported (message_of a.end) None err = subst (λ (c : Option PutFault). Reported (message_of a.end) c err) w.1 a.reported in
       record {
         taken = j.taken;
@@ -288,14 +307,14 @@ module _ (source : Intake) (out err : Output) (from at : Machine) (spans : List 
       }
 
   -- a source that is of its command's form
-  pub complete_call : (task : Option Command) (content : List ℕ) (end : RunEnd Fault) (cut : Option PutFault) → CallRan task end source out from at spans → HasCauses end source out → Reported (message_of end) cut err
+  pub complete_call : (task : Option Command) (content : List ℕ) (end : RunEnd Fault) (cut : Option PutFault) → CallRan R task end source out old new → HasCauses end source out → Reported (message_of end) cut err
       → source.old.left ≡ Some content → end_on task content true ≡ Done
       → (status_after end cut ≡ 0) ⊎ ((status_after end cut ≡ 5) ⊎ (Rose source.old.faults source.new.faults ⊎ (Rose out.old.faults out.new.faults ⊎ Rose err.old.faults err.new.faults)))
   complete_call task content end (Some put.Failed) ran caused said known good = inr (inr (inr (inr said.2.1)))
   complete_call task content end (Some put.NoMemory) ran caused said known good = inr (inl refl)
   complete_call task content Done None ran caused said known good = inl refl
   complete_call task content (Bad fault) None ran caused said known good =
-      let j = judged_call source out from at spans task (Bad fault) tt ran in
+      let j = judged_call R source out old new task (Bad fault) tt ran in
       absurd (no_fault task content fault source.new.left (subst (λ (o : Option (List ℕ)). Judged task (Bad fault) o source.new.left) known j) good)
   complete_call task content ReadFault None ran caused said known good = inr (inr (inl caused.read.1))
   complete_call task content (Cut put.Failed) None ran caused said known good = inr (inr (inr (inl caused.write.1)))

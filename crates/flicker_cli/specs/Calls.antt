@@ -1,21 +1,19 @@
--- What a call of the program took, did, wrote and answered, by how it ended. What is done and written is said for
--- every platform that the board and the disk held, on which no name is bound and no span is taken; a blank board
--- holds the blank one.
+-- What a call of the program took, did, wrote and answered, by how it ended, on a platform by the rules of lists or of
+-- digests, where it is known.
 use Rattle.std.specs.Prelude.{◌≡◌, ◌≢◌, ℕ, List, [], Option, Some, None}
-use Rattle.std.specs.FinMap.{empty}
+use Rattle.std.specs.Option.{option_map}
 use Rattle.std.specs.Io.KnownBytes.{Appends}
-use Rattle.region_pool.specs.Spans.{Span}
 use Rattle.flk_base.specs.Causes.{IsCutBy}
-use Rattle.flk_base.specs.Told.{AppendsPrefix}
+use Rattle.flk_base.specs.Known.{AppendsPrefix}
 use Rattle.flk_base.specs.Streams.{Intake, Output}
-use Rattle.flk_base.specs.RunEnds.{HasCauses, mapped}
+use Rattle.flk_base.specs.RunEnds.{HasCauses, mapped_end}
 use Rattle.flk_base.specs.declared.run_end.RunEnd.{RunEnd}
 use Rattle.flk_base.specs.declared.run_end.RunEnd.TheVariants.{Bad}
 use Rattle.flk_base.specs.declared.streams.PutFault.{PutFault}
 use Rattle.flk_base.specs.declared.streams.PutFault.TheVariants.{Failed, NoMemory}
-use Rattle.script_text.specs.Variables.{Table}
 use Rattle.flk_run.specs.declared.run.ScriptFault.{ScriptFault}
-use Rattle.flk_run.specs.Parts.{Machine, Experiment}
+use Rattle.seal_device.specs.Rules.{Rules}
+use Rattle.flk_run.specs.Platform.{Platform, at_rest}
 use Rattle.flk_run.specs.Runs.{Ran}
 use Rattle.flk_filters.specs.declared.fault.BadInput.{BadInput}
 use Rattle.flk_filters.specs.declared.filter.Filter.{Filter as Which}
@@ -26,41 +24,36 @@ use Rattle.flicker_cli.specs.declared.fault.Fault.{Fault}
 use Rattle.flicker_cli.specs.declared.fault.Fault.TheVariants.{Words, Script, Input}
 use Rattle.flicker_cli.specs.Messages.{message_of, status_of}
 
--- the machine with these variables and spans
-abbrev pub with_names : Machine → Table → List Span → Experiment
-with_names machine variables spans = record { machine = machine; variables = variables; spans = spans }
-
 -- ---- what a command did
 
--- nothing was asked of the source, nothing was written to out, and the machine is as it was
-pub record Untouched (source : Intake) (out : Output) (from at : Machine) (spans : List Span) : Type 0 where
+-- nothing was asked of the source, nothing was written to out, and the platform is as it was
+pub record Untouched {H : Type 0} (source : Intake) (out : Output) (old new : Option (Platform H)) : Type 0 where
   pub unasked : source.IsUntouched
   pub unread : source.new.left ≡ source.old.left
   pub unwritten : out.new.contents ≡ out.old.contents
-  pub kept : at ≡ from
-  pub none : spans ≡ []
+  pub kept : new ≡ old
 
--- a script ended so, begun with no name bound and no span taken; what it bound is given up
-pub record ScriptRan (end : RunEnd Fault) (source : Intake) (out : Output) (from at : Machine) (spans : List Span) : Type 0 where
+-- a script ended so; the names that it bound are given up, and no device write stays armed
+pub record ScriptRan {H : Type 0} (R : Rules H) (end : RunEnd Fault) (source : Intake) (out : Output) (old new : Option (Platform H)) : Type 0 where
   pub how : RunEnd ScriptFault
-  pub is : end ≡ mapped Script how
-  pub variables : Table
-  pub ran : Ran how source out (with_names from empty []) (with_names at variables spans)
+  pub is : end ≡ mapped_end Script how
+  pub reached : Option (Platform H)
+  pub ran : Ran R how source out old reached
+  pub left : new ≡ option_map at_rest reached
 
--- a filter ended so, and the machine is as it was
-pub record InputRan (which : Which) (end : RunEnd Fault) (source : Intake) (out : Output) (from at : Machine) (spans : List Span) : Type 0 where
+-- a filter ended so, and the platform is as it was
+pub record InputRan {H : Type 0} (which : Which) (end : RunEnd Fault) (source : Intake) (out : Output) (old new : Option (Platform H)) : Type 0 where
   pub how : RunEnd BadInput
-  pub is : end ≡ mapped Input how
+  pub is : end ≡ mapped_end Input how
   pub ran : FilterRan which how source out
-  pub kept : at ≡ from
-  pub none : spans ≡ []
+  pub kept : new ≡ old
 
--- what a call of these words that ended so took, did and wrote to out, with these spans handed back; words that are in
--- no row of the table of commands are an end by themselves
-abbrev pub CallRan : Option Command → RunEnd Fault → Intake → Output → Machine → Machine → List Span → Type 0
-CallRan None end source out from at spans = (end ≡ Bad Words) × Untouched source out from at spans
-CallRan (Some Run) end source out from at spans = ScriptRan end source out from at spans
-CallRan (Some (Filter which)) end source out from at spans = InputRan which end source out from at spans
+-- what a call of these words that ended so took, did and wrote to out; words that are in no row of the table of commands
+-- are an end by themselves
+abbrev pub CallRan : {H : Type 0} → Rules H → Option Command → RunEnd Fault → Intake → Output → Option (Platform H) → Option (Platform H) → Type 0
+CallRan R None end source out old new = (end ≡ Bad Words) × Untouched source out old new
+CallRan R (Some Run) end source out old new = ScriptRan R end source out old new
+CallRan R (Some (Filter which)) end source out old new = InputRan which end source out old new
 
 -- ---- what was reported
 
@@ -81,10 +74,10 @@ status_after end (Some NoMemory) = 5
 -- ---- the clause of the top call
 
 -- the call ended so: what it took, did and wrote, what caused that end, its message, and the status
-pub record Answered (task : Option Command) (status : ℕ) (source : Intake) (out err : Output) (from at : Machine) (spans : List Span) : Type 0 where
+pub record Answered {H : Type 0} (R : Rules H) (task : Option Command) (status : ℕ) (source : Intake) (out err : Output) (old new : Option (Platform H)) : Type 0 where
   pub end : RunEnd Fault
   pub cut : Option PutFault
-  pub ran : CallRan task end source out from at spans
+  pub ran : CallRan R task end source out old new
   pub caused : HasCauses end source out
   pub reported : Reported (message_of end) cut err
   pub answer : status ≡ status_after end cut

@@ -1,10 +1,10 @@
 -- A call over std's reader and writers.
-use Rattle.std.specs.Prelude.{◌≡◌, ℕ, false, List, Option, Result, Ok, Err}
-use Rattle.region_pool.specs.Spans.{Span}
-use Rattle.flk_base.specs.Told.{Edge}
+use Rattle.std.specs.Prelude.{◌≡◌, ℕ, false, List, Option, Some, Result, Ok, Err}
+use Rattle.flk_base.specs.Known.{Edge}
 use Rattle.flk_base.specs.Streams.{Intake, Output}
-use Rattle.flk_run.specs.Parts.{Machine, Stands}
-use Rattle.flk_run.specs.Platform.{blank}
+use Rattle.seal_device.specs.Rules.{Rules}
+use Rattle.flk_run.specs.declared.disk.SimDisk.{SimDisk}
+use Rattle.flk_run.specs.Platform.{Platform, blank}
 use Rattle.flicker_cli.specs.declared.words.Command.{Command}
 use Rattle.flicker_cli.specs.declared.start.StartFault.{StartFault}
 use Rattle.flicker_cli.specs.declared.start.StartFault.TheVariants.{NotText, NoMemory}
@@ -30,14 +30,12 @@ written_over contents old new = record {
   may_allocate = false;
 }
 
--- a call of these words answered this status from a blank platform, over this reader and these writers; what it left of
--- the machine is given up
-pub record AnsweredOver (task : Option Command) (status : ℕ) (source : Intake) (out err : Output) : Type 0 where
-  pub from : Machine
-  pub at : Machine
-  pub spans : List Span
-  pub blank_at_first : Stands blank from
-  pub answered : Answered task status source out err from at spans
+-- a call of these words answered this status, over this reader and these writers, from a platform that was never used;
+-- what it left is given up
+pub record AnsweredOver {H : Type 0} (R : Rules H) (task : Option Command) (status : ℕ) (source : Intake) (out err : Output) : Type 0 where
+  pub disk : SimDisk
+  pub left : Option (Platform H)
+  pub answered : Answered R task status source out err (Some (blank R disk)) left
 
 -- the status that the program ends with
 abbrev pub start_status : Result ℕ StartFault → ℕ

@@ -14,7 +14,7 @@ pub struct Finished {
 }
 
 impl Finished {
-    /// Gives the spans back, and answers the status.
+    /// Gives the spans back, ends the board and the disk, and answers the status.
     pub fn exit(self) -> u8
         requires { HoldsSpans self.board.memory.marks self.spans }
         ensures { result ≡ self.status }

@@ -12,11 +12,19 @@ mod words;
 
 use start::{arguments, begin, exit_code};
 use std::env;
+use std::io::{Stderr, Stdin, Stdout};
 use std::process::ExitCode;
 
 fn main(rt: HostRuntime) -> ExitCode {
     let status = match arguments(rt.alloc(), env::args(&rt)) {
-        Ok(words) => begin(rt.alloc(), &words, rt.stdin(), rt.stdout(), rt.stderr()).status,
+        // The types tell the three streams apart.
+        Ok(words) => begin::<Stdin, Stdout, Stderr>(
+            rt.alloc(),
+            &words,
+            rt.stdin(),
+            rt.stdout(),
+            rt.stderr(),
+        ).status,
         Err(fault) => Err(fault),
     };
     if let Err(fault) = &status {

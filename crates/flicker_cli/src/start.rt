@@ -1,11 +1,15 @@
 // From the words and std's streams to the status that the program ends with.
-ghost use Rattle.std.specs.Prelude.{◌≡◌, ◌≢◌, drop, map, string_bytes, IfOk, IfErr, IsOkAnd};
+ghost use Rattle.std.specs.Prelude.{◌≡◌, ◌≢◌, [], Some, drop, map, string_bytes, IfOk, IfErr, IsOkAnd};
+ghost use Rattle.std.specs.FinMap.{empty};
 ghost use Rattle.std.specs.Vec.Iter.{into_iter_items};
 ghost use Rattle.std.specs.IoError.{error_kind};
 ghost use Rattle.std.specs.Process.{exit_status};
 ghost use Rattle.std.specs.declared.io.ErrorKind.TheVariants.{OutOfMemory};
 ghost use Rattle.flicker_cli.specs.Commands.{command};
-ghost use Rattle.flk_run.specs.Parts.{Stands};
+ghost use Rattle.seal_device.specs.Digests.{digests};
+ghost use Rattle.seal_device.specs.Lists.{lists};
+ghost use Rattle.machine_memory.specs.HostMemory.{is_untaken};
+ghost use Rattle.flk_run.specs.Parts.{platform_of, known_if};
 ghost use Rattle.flk_run.specs.Platform.{blank};
 ghost use Rattle.flicker_cli.specs.Starts.{AnsweredOver, edge, read_over, written_over, start_status};
 
@@ -82,8 +86,7 @@ pub struct Left<R, W, V> {
     pub err: StdSink<V>,
 }
 
-/// Makes a blank board and disk, and does what the words say over this reader and these writers, once. The spans that
-/// the call took are given back.
+/// Makes a blank board and disk, and does what the words say over this reader and these writers, once.
 pub fn begin<R: Read, W: Write, V: Write>(
     alloc: Global,
     words: &[String],
@@ -92,7 +95,11 @@ pub fn begin<R: Read, W: Write, V: Write>(
     err: V,
 ) -> Left<R, W, V>
     // How the call ended, in terms of what the reader and the writers themselves make known.
-    ensures answered { IfOk result.status (λ status. AnsweredOver (command (map string_bytes words.now)) status
+    ensures answered { IfOk result.status (λ status. AnsweredOver digests (command (map string_bytes words.now)) status
+        (read_over R.remaining (edge input) result.input) (written_over W.contents (edge out) result.out)
+        (written_over V.contents (edge err) result.err)) }
+    // The same by lists.
+    ensures lists { IfOk result.status (λ status. AnsweredOver lists (command (map string_bytes words.now)) status
         (read_over R.remaining (edge input) result.input) (written_over W.contents (edge out) result.out)
         (written_over V.contents (edge err) result.err)) }
     // Without a board or a disk nothing is read or written.
@@ -126,7 +133,8 @@ pub fn begin<R: Read, W: Write, V: Write>(
 
 // A board and a disk that were never used.
 fn blank_machine(alloc: Global) -> Result<(Board, SimDisk), StartFault>
-    ensures blank { IfOk result (λ machine. Stands blank (record { board = machine.0; disk = machine.1 })) }
+    ensures blank { IfOk result (λ machine.
+        known_if (is_untaken machine.0.memory) (platform_of machine.0 [] machine.1 empty) ≡ Some (blank digests machine.1)) }
     ensures want { IfErr result (λ fault. fault ≡ StartFault.NoMemory) }
 {
     let Ok(board) = Board::blank(alloc) else {

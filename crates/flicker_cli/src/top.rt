@@ -1,9 +1,15 @@
 // The top call.
 ghost use Rattle.std.specs.Prelude.{◌≡◌, ◌⊎◌, ◌≤◌, ℕ, List, [], map, true, Some, None, string_bytes};
+ghost use Rattle.std.specs.FinMap.{empty};
 ghost use Rattle.flk_base.specs.Causes.{Rose};
 ghost use Rattle.flk_base.specs.Streams.{intake, output};
-ghost use Rattle.flk_base.specs.RunEnds.{HasCauses, mapped};
-ghost use Rattle.flk_run.specs.Parts.{HoldsSpans};
+ghost use Rattle.flk_base.specs.RunEnds.{HasCauses, mapped_end};
+ghost use Rattle.seal_device.specs.Digests.{digests};
+ghost use Rattle.seal_device.specs.Lists.{lists};
+ghost use Rattle.flk_run.specs.Agreement.{AgreesByLists};
+ghost use Rattle.machine_memory.specs.HostMemory.{is_untaken};
+ghost use Rattle.flk_run.specs.Parts.{HoldsSpans, platform_of, known_if};
+ghost use Rattle.flk_run.specs.Platform.{ListPlatform, platform_digested};
 ghost use Rattle.flicker_cli.specs.declared.words.Command.{Command as CommandView};
 ghost use Rattle.flicker_cli.specs.Commands.{command};
 ghost use Rattle.flicker_cli.specs.Calls.{Answered, CallRan, ScriptRan};
@@ -29,10 +35,23 @@ pub fn flicker<S: Source, K: Sink, E: Sink>(
     board: Board,
     disk: SimDisk,
 ) -> Finished
-    // How the call ended: what was taken, done and written, by which cause, with which message and status.
-    ensures answered { Answered (command (map string_bytes words.now)) result.status
+    // How the call ended: what was taken, done and written, by which cause, with which message and status. The platform is
+    // known where the board's memory held no span.
+    ensures answered { Answered digests (command (map string_bytes words.now)) result.status
         (intake S.Source source.old source.new) (output K.Sink out.old out.new) (output E.Sink err.old err.new)
-        (record { board = board; disk = disk }) (record { board = result.board; disk = result.disk }) result.spans }
+        (known_if (is_untaken board.memory) (platform_of board [] disk empty))
+        (known_if (is_untaken board.memory) (platform_of result.board result.spans result.disk empty)) }
+    // The same by lists, from each platform of lists that stands for this one of digests.
+    ensures lists { (p : ListPlatform)
+        → known_if (is_untaken board.memory) (platform_of board [] disk empty) ≡ Some (platform_digested p)
+        → AgreesByLists (Answered lists (command (map string_bytes words.now)) result.status
+        (intake S.Source source.old source.new) (output K.Sink out.old out.new) (output E.Sink err.old err.new))
+        p (known_if (is_untaken board.memory) (platform_of result.board result.spans result.disk empty)) }
+    // Only a script changes the board or the disk, or takes a span.
+    ensures kept { (command (map string_bytes words.now) ≡ Some CommandView.Run → ⊥)
+        → (result.board ≡ board) × (result.disk ≡ disk) × (result.spans ≡ []) }
+    // Memory holds the spans that are handed back.
+    ensures held { HoldsSpans result.board.memory.marks result.spans }
 
     // Status 0, 1 or 2: the end is that of the words and the bytes taken, whatever follows these.
     ensures text { result.status ≤ 2 → IsText (command (map string_bytes words.now)) result.status
@@ -53,9 +72,6 @@ pub fn flicker<S: Source, K: Sink, E: Sink>(
         → (content : List ℕ) → S.left source.old ≡ Some content → end_on (Some task) content true ≡ RunEnd.Done
         → (result.status ≡ 0) ⊎ (result.status ≡ 5) ⊎ Rose (S.fault_count source.old) (S.fault_count source.new)
         ⊎ Rose (K.fault_count out.old) (K.fault_count out.new) ⊎ Rose (E.fault_count err.old) (E.fault_count err.new) }
-
-    // The board's memory holds the spans, so `exit` may be called.
-    ensures held { HoldsSpans result.board.memory.marks result.spans }
 {
     let mut room = Bytes::new(alloc);
     let Ended {
@@ -92,11 +108,14 @@ fn carry_out<S: Source, K: Sink>(
     disk: SimDisk,
 ) -> Ended
     requires { room.old.bytes ≡ [] }
-    ensures ran { CallRan (command (map string_bytes words.now)) result.end
+    ensures ran { CallRan digests (command (map string_bytes words.now)) result.end
         (intake S.Source source.old source.new) (output K.Sink out.old out.new)
-        (record { board = board; disk = disk }) (record { board = result.board; disk = result.disk }) result.spans }
-    ensures caused { HasCauses result.end (intake S.Source source.old source.new) (output K.Sink out.old out.new) }
+        (known_if (is_untaken board.memory) (platform_of board [] disk empty))
+        (known_if (is_untaken board.memory) (platform_of result.board result.spans result.disk empty)) }
+    ensures kept { (command (map string_bytes words.now) ≡ Some CommandView.Run → ⊥)
+        → (result.board ≡ board) × (result.disk ≡ disk) × (result.spans ≡ []) }
     ensures held { HoldsSpans result.board.memory.marks result.spans }
+    ensures caused { HasCauses result.end (intake S.Source source.old source.new) (output K.Sink out.old out.new) }
     ensures room { wants_room result.end ≡ true → (room.new.bytes ≡ []) × (64 ≤ room.new.spare) }
 {
     let Some(command) = command_of(words) else {
@@ -129,7 +148,7 @@ fn as_it_was(alloc: Global, end: RunEnd<Fault>, board: Board, disk: SimDisk) -> 
     }
 }
 
-// Runs a script, with no name bound and no span taken.
+// Runs a script, with no span taken and no name bound.
 fn script<S: Source, K: Sink>(
     alloc: Global,
     source: &mut S,
@@ -137,10 +156,11 @@ fn script<S: Source, K: Sink>(
     board: Board,
     disk: SimDisk,
 ) -> Ended
-    ensures ran { ScriptRan result.end (intake S.Source source.old source.new) (output K.Sink out.old out.new)
-        (record { board = board; disk = disk }) (record { board = result.board; disk = result.disk }) result.spans }
-    ensures caused { HasCauses result.end (intake S.Source source.old source.new) (output K.Sink out.old out.new) }
+    ensures ran { ScriptRan digests result.end (intake S.Source source.old source.new) (output K.Sink out.old out.new)
+        (known_if (is_untaken board.memory) (platform_of board [] disk empty))
+        (known_if (is_untaken board.memory) (platform_of result.board result.spans result.disk empty)) }
     ensures held { HoldsSpans result.board.memory.marks result.spans }
+    ensures caused { HasCauses result.end (intake S.Source source.old source.new) (output K.Sink out.old out.new) }
 {
     let (runner, end) = run_script(alloc, source, out, Runner::new(alloc, board, disk));
     let (board, disk, spans) = runner.finish();
@@ -154,7 +174,7 @@ fn script<S: Source, K: Sink>(
 
 // The end of a script as that of a call.
 fn of_script(end: RunEnd<ScriptFault>) -> RunEnd<Fault>
-    ensures { result ≡ mapped Fault.Script end }
+    ensures { result ≡ mapped_end Fault.Script end }
 {
     match end {
         RunEnd::Done => RunEnd::Done,
@@ -167,7 +187,7 @@ fn of_script(end: RunEnd<ScriptFault>) -> RunEnd<Fault>
 
 // The end of a filter as that of a call.
 fn of_filter(end: RunEnd<BadInput>) -> RunEnd<Fault>
-    ensures { result ≡ mapped Fault.Input end }
+    ensures { result ≡ mapped_end Fault.Input end }
 {
     match end {
         RunEnd::Done => RunEnd::Done,

@@ -1,111 +1,248 @@
--- What an event answers, and what there is after it.
-use Rattle.std.specs.Prelude.{ℕ, ◌+◌, ◌==◌, nat_lt, Bool, List, [], ◌∷◌, ◌++◌, length, find, codes, Option, Some, None, if◌then◌else◌}
-use Rattle.tpm_state.specs.Chain.{value, chain_of, with_text, register_count}
+-- What an event answers, and what there is after it: a plan over the commands of the device.
+use Rattle.std.specs.List.{list_all, range_with_len}
+use Rattle.std.specs.Prelude.{ℕ, ◌+◌, ◌==◌, ◌||◌, count_by, Bool, List, [], ◌∷◌, ◌++◌, length, find, codes, Option, Some, None, Result, Ok, Err, if◌then◌else◌}
+use Rattle.flk_base.specs.Plan.{Plan, Return, ask, ◌>>=◌, run}
+use Rattle.flk_base.specs.Stop.{Limit, limited}
+use Rattle.seal_device.specs.Rules.{Device, Rules}
+use Rattle.seal_device.specs.Commands as command
+use Rattle.seal_device.specs.Commands.{Command, Reply, costs, act}
+use Rattle.seal_device.specs.Refusals.Register as registers
 use Rattle.script_text.specs.Grammar.{Request}
-use Rattle.flk_run.specs.declared.answers.Refusal.{Refusal}
-use Rattle.flk_run.specs.declared.answers.Refusal.TheVariants.{NoRegister, NoRoom, NoSpan, NoTaken, NoBlocked}
-use Rattle.flk_run.specs.Answers.{Answer, Quiet, Done, Counts, Shows, Refused, line_of}
-use Rattle.machine_memory.specs.Contents.{first_byte}
+use Rattle.slb_image.specs.Faults.{image_fault}
+use Rattle.machine_memory.specs.Contents.{first_byte, frame_of}
+use Rattle.machine_memory.specs.ArmedWrites.{is_waiting, is_done, is_blocked}
 use Rattle.machine_memory.specs.Writes.{part}
-use Rattle.flk_run.specs.HostMemory.{HostMemory, HostSpan, place, starts_at, are_taken, are_open, with_span, without_span, with_bytes}
-use Rattle.flk_run.specs.Platform.{Platform, bound}
-use Rattle.flk_run.specs.Tasks.{Task, Rest, Refuse, Extend, Read, Bind, Show, BindImage, Take, Give, Poke, Peek, Dma, task_of}
+use Rattle.slb_core.specs.Pal.{Permits, PalEnd}
+use Rattle.slb_core.specs.Sessions.{Setting}
+use Rattle.session_driver.specs.Sessions.{area_frames, area_alignment, setting_with, session_plan, wiped}
+use Rattle.session_driver.specs.Answers as session
+use Rattle.session_driver.specs.Answers.{Course, IsRefused, RunsAt, course_at}
+use Rattle.flk_run.specs.declared.answers.Refusal.{Refusal}
+use Rattle.flk_run.specs.declared.answers.Refusal.TheVariants.{NoRegister, NoImage, NoRoom, NoSpan, NoTaken, NoBlocked, NoInput, NoPlace, PowerLost}
+use Rattle.flk_run.specs.declared.disk.SimDisk.{SimDisk}
+use Rattle.flk_run.specs.Answers.{SessionOver, Answer, Quiet, Done, Counts, Shows, Registers, Ended, Refused, line_of}
+use Rattle.machine_memory.specs.HostMemory.{HostMemory, HostSpan, is_taken, place, starts_at, are_taken, are_open, with_span, without_span, with_bytes}
+use Rattle.flk_run.specs.Platform.{Around, Platform, with_name, with_name_if, with_register, with_armed, with_memory, after_power_on}
+use Rattle.flk_run.specs.Tasks.{Task, Rest, Refuse, Extend, Read, Bind, Show, BindImage, Take, Give, Poke, Peek, Dma, SetRegister, ShowRegisters, Arm, RunSession, task_of}
 
--- an answer, and the platform after it
-pub record Step : Type 0 where
-  pub answer : Answer
-  pub platform : Platform
-
--- an answer that leaves the platform as it was
-abbrev pub answered : Answer → Platform → Step
-answered answer p = record { answer = answer; platform = p }
-
--- the text of a host's extend begins so
-abbrev pub host_front : List ℕ
-host_front = codes "host"
-
--- register r extended by the host
-abbrev pub extended_by_host : ℕ → List ℕ → Platform → Step
-extended_by_host r text p =
-    if nat_lt r register_count
-    then record { answer = Done; platform = record p { chains = with_text p.chains r (host_front ++ text) } }
-    else answered (Refused NoRegister) p
-
--- register r read
-abbrev pub register_shown : ℕ → Platform → Step
-register_shown r p = answered (if nat_lt r register_count then Shows (value (chain_of p.chains r)) else Refused NoRegister) p
-
--- memory changed, and the event was done
-abbrev pub with_memory : Answer → HostMemory → Platform → Step
-with_memory answer memory p = record { answer = answer; platform = record p { memory = memory } }
+-- ---- what memory is after an event, and the answer
 
 -- a span taken from its first frame on, where there is a place for it
-abbrev pub taken_at : Option ℕ → ℕ → Platform → Step
-taken_at None frames p = answered (Refused NoRoom) p
-taken_at (Some first) frames p = with_memory (Counts (first_byte first)) (with_span first frames p.memory) p
+abbrev pub taken_at : Option ℕ → ℕ → HostMemory → HostMemory × Answer
+taken_at None frames m = (m, Refused NoRoom)
+taken_at (Some first) frames m = (with_span first frames m, Counts (first_byte first))
 
 -- so many frames taken; of none there is no span
-abbrev pub span_taken : ℕ → Platform → Step
-span_taken frames p = if frames == 0 then answered (Refused NoRoom) p else taken_at (place p.memory.spans frames) frames p
+abbrev pub span_taken : ℕ → HostMemory → HostMemory × Answer
+span_taken frames m =
+    if frames == 0 then (m, Refused NoRoom) else taken_at (place m.spans frames 1) frames m
 
 -- a span given back, where there is one
-abbrev pub given_back : Option HostSpan → Platform → Step
-given_back None p = answered (Refused NoSpan) p
-given_back (Some span) p = with_memory Done (without_span span p.memory) p
+abbrev pub given_back : Option HostSpan → HostMemory → HostMemory × Answer
+given_back None m = (m, Refused NoSpan)
+given_back (Some span) m = (without_span span m, Done)
 
 -- the span that starts at the address given back
-abbrev pub span_given : ℕ → Platform → Step
-span_given at p = given_back (find (starts_at at) p.memory.spans) p
+abbrev pub span_given : ℕ → HostMemory → HostMemory × Answer
+span_given at m = given_back (find (starts_at at) m.spans) m
 
 -- bytes written from the address on, where they may be
-abbrev pub written_if : Bool → Refusal → ℕ → List ℕ → Platform → Step
-written_if may why at bytes p = if may then with_memory Done (with_bytes at bytes p.memory) p else answered (Refused why) p
+abbrev pub written_if : Bool → Refusal → ℕ → List ℕ → HostMemory → HostMemory × Answer
+written_if may why at bytes m = if may then (with_bytes at bytes m, Done) else (m, Refused why)
 
 -- bytes of one span written by the host
-abbrev pub written_by_host : ℕ → List ℕ → Platform → Step
-written_by_host at bytes p = written_if (are_taken p.memory.spans at (length bytes)) NoTaken at bytes p
+abbrev pub written_by_host : ℕ → List ℕ → HostMemory → HostMemory × Answer
+written_by_host at bytes m = written_if (are_taken m.spans at (length bytes)) NoTaken at bytes m
 
 -- so many bytes of one span shown
-abbrev pub bytes_shown : ℕ → ℕ → Platform → Step
-bytes_shown at count p = answered (if are_taken p.memory.spans at count then Shows (part p.memory.bytes at count) else Refused NoTaken) p
+abbrev pub bytes_shown : ℕ → ℕ → HostMemory → HostMemory × Answer
+bytes_shown at count m =
+    (m, if are_taken m.spans at count then Shows (part m.bytes at count) else Refused NoTaken)
 
 -- bytes written by a device
-abbrev pub written_by_device : ℕ → List ℕ → Platform → Step
-written_by_device at bytes p = written_if (are_open p.memory.spans at (length bytes)) NoBlocked at bytes p
+abbrev pub written_by_device : ℕ → List ℕ → HostMemory → HostMemory × Answer
+written_by_device at bytes m = written_if (are_open m.spans at (length bytes)) NoBlocked at bytes m
 
--- a task done
-abbrev pub done : Task → Platform → Step
-done Rest p = answered Quiet p
-done (Refuse why) p = answered (Refused why) p
-done (Extend r text) p = extended_by_host r text p
-done (Read r) p = register_shown r p
-done (Bind name value) p = record { answer = Done; platform = bound name value p }
-done (Show bytes) p = answered (Shows bytes) p
-done (BindImage name image) p = record { answer = Counts (length image); platform = bound name image p }
-done (Take frames) p = span_taken frames p
-done (Give at) p = span_given at p
-done (Poke at bytes) p = written_by_host at bytes p
-done (Peek at count) p = bytes_shown at count p
-done (Dma at bytes) p = written_by_device at bytes p
+-- ---- sessions
 
--- an event: its expressions first, then the task
-abbrev pub step : Request → Platform → Step
-step request p = done (task_of request p.variables) p
+-- a device may write to the frame in a session: it lies in a span of the host, or is the input or
+-- the output page
+abbrev pub is_permitted : List HostSpan → ℕ → ℕ → Bool
+is_permitted spans first frame = is_taken spans frame || frame == first + 16 || frame == first + 17
+
+-- the device writes that a session in the area at a frame permits: those of whose bytes each lies in
+-- such a frame
+abbrev pub permits_around : List HostSpan → ℕ → Permits
+permits_around spans first at count =
+    list_all (λ byte. is_permitted spans first (frame_of byte)) (range_with_len at count)
+
+-- what a session of an image begins with, in the area at a frame
+abbrev pub setting_around : HostMemory → ℕ → List ℕ → List ℕ → Setting
+setting_around m first image inputs =
+    setting_with (permits_around m.spans first) m.bytes first image inputs
+
+-- what it comes to: the area has the lowest place
+abbrev pub course_around : HostMemory → List ℕ → List ℕ → Course
+course_around m image inputs =
+    course_at (place m.spans area_frames area_alignment) inputs (image_fault image)
+
+-- what is answered where it is refused
+abbrev pub session_refusal : session.Refusal → Refusal
+session_refusal (session.IsNoImage fault) = NoImage fault
+session_refusal session.HasLongInputs = NoInput
+session_refusal session.HasNoPlace = NoPlace
+
+-- what is answered where it ended
+abbrev pub session_over : PalEnd → SessionOver
+session_over ended = record {
+  end = ended.end;
+  turns = ended.turns;
+  writes_done = count_by (λ write. is_done write.ended) ended.outside.writes;
+  writes_blocked = count_by (λ write. is_blocked write.ended) ended.outside.writes;
+  writes_left = count_by (λ write. is_waiting write.ended) ended.outside.writes;
+  outputs = ended.outputs;
+}
+
+-- what is around then: the area is zero again, no write is armed, and the name is bound
+abbrev pub after_session : ℕ → PalEnd → Option (List ℕ) → Around → Around
+after_session first ended var w =
+    with_name_if var ended.outputs
+    (record w { memory = record w.memory { bytes = wiped first ended.outside.bytes }; armed = [] })
+
+-- the session's plan
+abbrev pub session_task : Course → List ℕ → List ℕ → List ℕ → Option (List ℕ) → Around
+    → Plan Command Reply (Around × Answer)
+session_task (IsRefused why) image inputs nonce var w = Return (w, Refused (session_refusal why))
+session_task (RunsAt first) image inputs nonce var w =
+    session_plan (setting_around w.memory first image inputs) image inputs nonce w.armed
+    >>= λ ended. Return (after_session first ended var w, Ended (session_over ended))
+
+-- ---- the plan of a task
+
+-- the text of a host's extend begins so
+abbrev pub host_prefix : List ℕ
+host_prefix = codes "host"
+
+-- what is answered to an extend, and to a read
+abbrev pub extend_answer : Result (Unit {0}) registers.Refusal → Answer
+extend_answer (Ok done) = Done
+extend_answer (Err registers.NoRegister) = Refused NoRegister
+
+abbrev pub read_answer : Result (List ℕ) registers.Refusal → Answer
+read_answer (Ok value) = Shows value
+read_answer (Err registers.NoRegister) = Refused NoRegister
+
+-- one command, and the answer to its reply; what is around stays
+abbrev pub answering : (c : Command) → (Reply c → Answer) → Around
+    → Plan Command Reply (Around × Answer)
+answering c answer_of w = ask c >>= λ reply. Return (w, answer_of reply)
+
+-- memory as an event leaves it, and its answer
+abbrev pub in_memory : HostMemory × Answer → Around → Plan Command Reply (Around × Answer)
+in_memory end w = Return (with_memory end.0 w, end.1)
+
+-- a task: what it leaves around the device, and its answer
+abbrev pub plan_of : Task → Around → Plan Command Reply (Around × Answer)
+plan_of Rest w = Return (w, Quiet)
+plan_of (Refuse why) w = Return (w, Refused why)
+plan_of (Extend r text) w = answering (command.Extend r (host_prefix ++ text)) extend_answer w
+plan_of (Read r) w = answering (command.ReadRegister r) read_answer w
+plan_of (Bind name value) w = Return (with_name name value w, Done)
+plan_of (Show bytes) w = Return (w, Shows bytes)
+plan_of (BindImage name image) w = Return (with_name name image w, Counts (length image))
+plan_of (Take frames) w = in_memory (span_taken frames w.memory) w
+plan_of (Give at) w = in_memory (span_given at w.memory) w
+plan_of (Poke at bytes) w = in_memory (written_by_host at bytes w.memory) w
+plan_of (Peek at count) w = in_memory (bytes_shown at count w.memory) w
+plan_of (Dma at bytes) w = in_memory (written_by_device at bytes w.memory) w
+plan_of (SetRegister reg n) w = Return (with_register reg n w, Done)
+plan_of ShowRegisters w = Return (w, Registers w.registers.regs)
+plan_of (Arm turn at bytes) w = Return (with_armed turn at bytes w, Done)
+plan_of (RunSession image inputs nonce var) w =
+    session_task (course_around w.memory image inputs) image inputs nonce var w
+
+-- ---- events
+
+-- what an event leaves beside the device and the disk, and its answer
+pub record Outcome : Type 0 where
+  pub around : Around
+  pub fuse : Limit
+  pub answer : Answer
+
+-- how a plan with a fuse is settled: by its value, or, where the power was lost, by its coming back
+abbrev pub settlement : Around → Limit × Option (Around × Answer) → Plan Command Reply Outcome
+settlement w (left, Some end) = Return (record { around = end.0; fuse = left; answer = end.1 })
+settlement w (left, None) =
+    ask command.PowerOn >>= λ done.
+    Return (record { around = after_power_on w; fuse = None; answer = Refused PowerLost })
+
+-- a plan that the fuse may stop, settled
+abbrev pub with_stop : Around → Limit → Plan Command Reply (Around × Answer)
+    → Plan Command Reply Outcome
+with_stop w fuse plan = limited costs plan fuse >>= settlement w
+
+-- an event: its expressions first, then its task
+abbrev pub event : Around → Limit → Request → Plan Command Reply Outcome
+event w fuse request = with_stop w fuse (plan_of (task_of request w.variables) w)
+
+-- the platform after an outcome, beside this disk, and the answer
+abbrev pub after_outcome : {H : Type 0} → SimDisk → Device H × Outcome → Platform H × Answer
+after_outcome disk end =
+    (record { device = end.0; disk = disk; around = end.1.around; fuse = end.1.fuse }, end.1.answer)
+
+-- a task on a platform
+abbrev pub task_step : {H : Type 0} → Rules H → Task → Platform H → Platform H × Answer
+task_step R task p =
+    after_outcome p.disk (run (act R) (with_stop p.around p.fuse (plan_of task p.around)) p.device)
+
+-- an event on a platform
+abbrev pub step : {H : Type 0} → Rules H → Request → Platform H → Platform H × Answer
+step R request p = after_outcome p.disk (run (act R) (event p.around p.fuse request) p.device)
 
 -- the platform after an event
-abbrev pub after : Request → Platform → Platform
-after request p = (step request p).platform
+abbrev pub after : {H : Type 0} → Rules H → Request → Platform H → Platform H
+after R request p = (step R request p).0
 
 -- line n of the transcript, for an event
-abbrev pub transcript_line : ℕ → Request → Platform → List ℕ
-transcript_line n request p = line_of n (step request p).answer
+abbrev pub transcript_line : {H : Type 0} → Rules H → ℕ → Request → Platform H → List ℕ
+transcript_line R n request p = line_of n (step R request p).1
 
 -- what events write, the first of them at line n
-abbrev pub transcript : ℕ → List Request → Platform → List ℕ
-transcript n [] p = []
-transcript n (request ∷ requests) p = transcript_line n request p ++ transcript (n + 1) requests (after request p)
+abbrev pub transcript : {H : Type 0} → Rules H → ℕ → List Request → Platform H → List ℕ
+transcript R n [] p = []
+transcript R n (request ∷ requests) p =
+    transcript_line R n request p ++ transcript R (n + 1) requests (after R request p)
 
 -- the platform after events
-abbrev pub after_all : List Request → Platform → Platform
-after_all [] p = p
-after_all (request ∷ requests) p = after_all requests (after request p)
+abbrev pub after_all : {H : Type 0} → Rules H → List Request → Platform H → Platform H
+after_all R [] p = p
+after_all R (request ∷ requests) p = after_all R requests (after R request p)
+
+-- ---- a script as one plan
+
+-- what a script leaves beside the device and the disk, and its answers
+pub record Outcomes : Type 0 where
+  pub around : Around
+  pub fuse : Limit
+  pub answers : List Answer
+
+-- outcomes with one answer more before theirs
+abbrev pub answered_first : Answer → Outcomes → Outcomes
+answered_first answer end = record end { answers = answer ∷ end.answers }
+
+-- a script: each event, and then the rest from where it left what is around
+abbrev pub script : Around → Limit → List Request → Plan Command Reply Outcomes
+script w fuse [] = Return (record { around = w; fuse = fuse; answers = [] })
+script w fuse (request ∷ requests) =
+    event w fuse request >>= λ end.
+    script end.around end.fuse requests >>= λ rest. Return (answered_first end.answer rest)
+
+-- the lines of answers, the first of them at line n
+abbrev pub lines_of : ℕ → List Answer → List ℕ
+lines_of n [] = []
+lines_of n (answer ∷ answers) = line_of n answer ++ lines_of (n + 1) answers
+
+-- the platform that a script leaves
+abbrev pub after_outcomes : {H : Type 0} → SimDisk → Device H × Outcomes → Platform H
+after_outcomes disk end =
+    record { device = end.0; disk = disk; around = end.1.around; fuse = end.1.fuse }

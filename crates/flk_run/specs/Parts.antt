@@ -1,51 +1,38 @@
--- What contracts see of a board, a disk and a runner, and when they are those of a platform.
-use Rattle.std.specs.Prelude.{◌≡◌, ℕ, ◌<◌, List, [], ◌∷◌, length, map, false, slice_get, Some}
+-- What contracts see of a board, a disk and a runner, and of the marks of memory.
+use Rattle.std.specs.Prelude.{◌≡◌, ℕ, ◌<◌, List, [], ◌∷◌, length, map, Bool, true, false, slice_get, Option, Some, None}
 use Rattle.std.specs.List.{AllByRecursion}
 use Rattle.std.specs.Coded.{Coded, coded_list, coded_ℕ}
 use Rattle.std.specs.FinMap as finite
-use Rattle.tpm_state.specs.Chain.{value, register_count}
 use Rattle.region_pool.specs.declared.mark.Mark.{Mark}
 use Rattle.region_pool.specs.declared.mark.Mark.TheVariants.{Free}
 use Rattle.region_pool.specs.declared.ticket.Purpose.TheVariants.{Host}
 use Rattle.region_pool.specs.Marks.{is_free}
 use Rattle.region_pool.specs.Spans.{Span, Holds, IsDisjoint}
 use Rattle.machine_memory.specs.Contents.{Contents, frame_count}
-use Rattle.script_text.specs.Variables.{Table}
-use Rattle.flk_run.specs.declared.board.SimDisk.{SimDisk}
-use Rattle.flk_run.specs.HostMemory.{HostMemory, HostSpan, is_taken}
-use Rattle.flk_run.specs.Platform.{Platform}
+use Rattle.machine_memory.specs.ArmedWrites.{Armed}
+use Rattle.late_launch.specs.Boards.{BoardParts, fallen, powered}
+use Rattle.expr_text.specs.Variables.{Table}
+use Rattle.flk_run.specs.declared.disk.SimDisk.{SimDisk}
+use Rattle.machine_memory.specs.HostMemory.{HostMemory, HostSpan, is_taken}
+use Rattle.flk_run.specs.Platform.{DigestPlatform}
 
--- the values of a board's registers, and its memory
-pub record BoardParts : Type 0 where
-  pub registers : List (List ℕ)
-  pub memory : Contents
+-- a board once the power was lost and came back
+abbrev pub board_after_power_on : BoardParts → BoardParts
+board_after_power_on board = powered (fallen board)
+
+-- all but memory is as it was: the device, the host's registers and the fuse
+pub record KeepsDevice (old new : BoardParts) : Type 0 where
+  pub device : new.device ≡ old.device
+  pub registers : new.registers ≡ old.registers
+  pub fuse : new.fuse ≡ old.fuse
 
 -- a disk after power-on: it has no contents yet
 abbrev pub blank_disk : SimDisk
 blank_disk = record {}
 
--- a board and a disk
-pub record Machine : Type 0 where
-  pub board : BoardParts
-  pub disk : SimDisk
-
--- the machine, and what is the experimenter's and kept by neither board nor disk: variables, and tickets for spans
-pub record Experiment : Type 0 where
-  pub machine : Machine
-  pub variables : Table
-  pub spans : List Span
-
--- a table of variables as plain data
-pub table_code : Coded Table
-table_code = finite.code (coded_list coded_ℕ) (coded_list coded_ℕ)
-
--- an experiment of these parts
-abbrev pub experiment : BoardParts → SimDisk → Table → List Span → Experiment
-experiment board disk variables spans = record { machine = record { board = board; disk = disk }; variables = variables; spans = spans }
-
 -- ---- spans
 
--- each of the spans has no frame in common with those behind it
+-- each of the spans has no frame in common with those after it
 abbrev pub AreApart : List Span → Type 0
 AreApart [] = Unit {0}
 AreApart (span ∷ spans) = AllByRecursion (IsDisjoint span) spans × AreApart spans
@@ -55,32 +42,108 @@ pub record HoldsSpans (marks : List Mark) (spans : List Span) : Type 0 where
   pub held : AllByRecursion (Holds marks) spans
   pub apart : AreApart spans
 
--- a span of the platform is one that serves the host
+-- a span of the host as one that serves it, and the other way round
 abbrev pub as_host : HostSpan → Span
 as_host span = record { first = span.first; frames = span.frames; purpose = Host }
 
--- the marks of all frames are those of the spans: the spans are held, and a frame in none of them is free
+abbrev pub host_span : Span → HostSpan
+host_span span = record { first = span.first; frames = span.frames }
+
+-- the marks of all frames are those of the spans: the spans are held, and a frame in none of them
+-- is free
 pub record MarksAre (marks : List Mark) (spans : List HostSpan) : Type 0 where
   pub count : length marks ≡ frame_count
   pub held : HoldsSpans marks (map as_host spans)
-  pub free : (frame : ℕ) → frame < frame_count → is_taken spans frame ≡ false → slice_get marks frame ≡ Some Free
+  pub free : (frame : ℕ) → frame < frame_count → is_taken spans frame ≡ false
+      → slice_get marks frame ≡ Some Free
 
--- ---- the platform
-
--- memory holds what the platform says: its bytes, its spans and no others, and free frames alone are excluded
+-- memory holds what the platform says: its bytes, its spans and no others, and free frames alone
+-- are excluded
 pub record MemoryStands (p : HostMemory) (m : Contents) : Type 0 where
   pub bytes : m.bytes ≡ p.bytes
   pub marks : MarksAre m.marks p.spans
   pub excluded : m.excluded ≡ map is_free m.marks
 
--- the board and the disk hold what the platform says: each register the value of its chain, and memory
-pub record Stands (p : Platform) (m : Machine) : Type 0 where
-  pub count : length p.chains ≡ register_count
-  pub registers : m.board.registers ≡ map value p.chains
-  pub memory : MemoryStands p.memory m.board.memory
+-- memory by its bytes and the spans that the host holds
+abbrev pub host_memory : Contents → List Span → HostMemory
+host_memory memory spans = record { bytes = memory.bytes; spans = map host_span spans }
 
--- the experiment is at this platform: its tickets are for the platform's spans
-pub record IsAt (p : Platform) (e : Experiment) : Type 0 where
-  pub stands : Stands p e.machine
-  pub variables : e.variables ≡ p.variables
-  pub spans : e.spans ≡ map as_host p.memory.spans
+-- the host holds all spans of memory, and each of them serves it
+pub record HoldsAll (memory : Contents) (spans : List Span) : Type 0 where
+  pub stands : MemoryStands (host_memory memory spans) memory
+  pub serve : map as_host (map host_span spans) ≡ spans
+
+-- ---- hosts
+
+-- what is true of every host: memory holds its spans, and no others, where it held none when the
+-- host came
+pub record IsHost (untaken : Bool) (memory : Contents) (spans : List Span) : Type 0 where
+  pub held : HoldsSpans memory.marks spans
+  pub all : untaken ≡ true → HoldsAll memory spans
+
+-- a host: its board, the spans that it holds, whether memory held none when it came, the device
+-- writes that are armed, and for how many more tickets there is room
+pub record HostParts : Type 0 where
+  pub board : BoardParts
+  pub spans : List Span
+  pub untaken : Bool
+  pub armed : List Armed
+  pub spare : ℕ
+
+-- ---- platforms by digests
+
+-- tables of variables can be told apart
+pub table_code : Coded Table
+table_code = finite.code (coded_list coded_ℕ) (coded_list coded_ℕ)
+
+-- the platform of a board, of whose memory the host holds these spans, and for whose next session
+-- these writes are armed, beside this disk, with these variables
+abbrev pub platform_with : List Armed → BoardParts → List Span → SimDisk → Table → DigestPlatform
+platform_with armed board spans disk variables = record {
+  device = board.device;
+  disk = disk;
+  around = record {
+    memory = host_memory board.memory spans;
+    registers = board.registers;
+    armed = armed;
+    variables = variables;
+  };
+  fuse = board.fuse;
+}
+
+-- the same with no write armed
+abbrev pub platform_of : BoardParts → List Span → SimDisk → Table → DigestPlatform
+platform_of board spans disk variables = platform_with [] board spans disk variables
+
+-- the platform, where it is known; it is where memory held no span when the host came
+abbrev pub known_if : Bool → DigestPlatform → Option DigestPlatform
+known_if true p = Some p
+known_if false p = None
+
+-- ---- runners
+
+-- what contracts see of a runner: its board, the spans that it holds, whether memory held none when
+-- it was made, the device writes that are armed, the disk and the variables
+pub record Experiment : Type 0 where
+  pub board : BoardParts
+  pub spans : List Span
+  pub untaken : Bool
+  pub armed : List Armed
+  pub disk : SimDisk
+  pub variables : Table
+
+-- the runner of a host, beside this disk, with these variables
+abbrev pub experiment : HostParts → SimDisk → Table → Experiment
+experiment host disk variables = record {
+  board = host.board;
+  spans = host.spans;
+  untaken = host.untaken;
+  armed = host.armed;
+  disk = disk;
+  variables = variables;
+}
+
+-- the platform that a runner is, where it is known
+abbrev pub platform : Experiment → Option DigestPlatform
+platform e =
+    known_if e.untaken (platform_with e.armed e.board e.spans e.disk e.variables)

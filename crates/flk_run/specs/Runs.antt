@@ -1,31 +1,34 @@
--- How far a run of a script came: what was taken, what was done, and what was written. What is done and
--- written is said for every platform that the board and the disk hold when the run begins.
+-- How far a run of a script came: what was taken, what was done, and what was written, on a
+-- platform where it is known.
 use Rattle.std.specs.Prelude.{◌≡◌, ◌≢◌, ◌⊎◌, ℕ, ◌+◌, ◌-◌, ◌≤◌, Bool, true, false, List, [], ◌∷◌, ◌++◌, length, Option, Some, None, Ok}
+use Rattle.std.specs.Option.{IfSome, option_map}
 use Rattle.std.specs.Io.KnownBytes.{Appends}
-use Rattle.flk_base.specs.Told.{AppendsPrefix}
+use Rattle.flk_base.specs.Known.{AppendsPrefix}
 use Rattle.flk_base.specs.Streams.{Intake, Output, Takes, TakenUntilFault, IsSettled}
 use Rattle.flk_base.specs.declared.run_end.RunEnd.{RunEnd}
 use Rattle.flk_base.specs.declared.run_end.RunEnd.TheVariants.{Done, Bad, ReadFault, Cut, NoMemory}
 use Rattle.script_text.specs.Grammar.{Request}
-use Rattle.script_text.specs.Lines.{longest_line, script_lines, behind_lines}
-use Rattle.script_text.specs.Reader.{read_size}
+use Rattle.script_text.specs.Lines.{script_lines, after_lines}
+use Rattle.script_text.specs.declared.line.TheConstants.{LONGEST_LINE}
+use Rattle.script_text.specs.declared.reader.TheConstants.{READ_SIZE}
 use Rattle.script_text.specs.Reading.{judged}
 use Rattle.script_text.specs.declared.line.BadLine.{BadLine}
 use Rattle.script_text.specs.declared.line.BadLine.TheVariants.{Faulty, TooMany}
 use Rattle.script_text.specs.declared.line.LineFault.TheVariants as fault
 use Rattle.flk_run.specs.declared.run.ScriptFault.{ScriptFault}
+use Rattle.seal_device.specs.Rules.{Rules}
 use Rattle.flk_run.specs.Platform.{Platform}
 use Rattle.flk_run.specs.Events.{transcript_line, transcript, after_all}
-use Rattle.flk_run.specs.Parts.{Experiment, IsAt}
 use Rattle.flk_run.specs.Script.{good_requests, first_bad, MayRunOut}
 use Rattle.flk_run.specs.LineRuns.{NotBegun}
 
--- how far the bytes go past the end of bad line n; of one that is too long past its first 16,385 bytes, of one line
--- too many past the end of the line before it
+-- how far the bytes go past the end of bad line n; of one that is too long past its first 16,385
+-- bytes, of one line too many past the end of the line before it
 abbrev pub IsNearLine : ℕ → BadLine → List ℕ → Type 0
-IsNearLine n TooMany taken = length (behind_lines (n - 1) taken) ≤ read_size
-IsNearLine n (Faulty fault.LongLine) taken = length (behind_lines (n - 1) taken) ≤ longest_line + 1 + read_size
-IsNearLine n (Faulty other) taken = length (behind_lines n taken) ≤ read_size
+IsNearLine n TooMany taken = length (after_lines (n - 1) taken) ≤ READ_SIZE
+IsNearLine n (Faulty fault.LongLine) taken =
+    length (after_lines (n - 1) taken) ≤ LONGEST_LINE + 1 + READ_SIZE
+IsNearLine n (Faulty other) taken = length (after_lines n taken) ≤ READ_SIZE
 
 -- the same of the first bad line of a script; where there is none, all is taken
 abbrev pub IsNear : Option ScriptFault → List ℕ → Type 0
@@ -38,26 +41,25 @@ bad_in taken ended = first_bad 1 (script_lines taken ended)
 
 -- ---- what was done and written
 
--- from platform p the requests are done, and their transcript is written
-pub record Written (requests : List Request) (p : Platform) (out out' : Option (List ℕ)) (new : Experiment) : Type 0 where
-  pub written : Appends out out' (transcript 1 requests p)
-  pub at : IsAt (after_all requests p) new
+-- the requests are done, and their transcript is written
+pub record Written {H : Type 0} (R : Rules H) (requests : List Request) (out out' : Option (List ℕ))
+    (old new : Option (Platform H)) : Type 0 where
+  pub written : IfSome old (λ p. Appends out out' (transcript R 1 requests p))
+  pub at : new ≡ option_map (after_all R requests) old
 
--- the same, from each platform that the experiment was at
-abbrev pub AllWritten : List Request → Option (List ℕ) → Option (List ℕ) → Experiment → Experiment → Type 0
-AllWritten requests out out' old new = (p : Platform) → IsAt p old → Written requests p out out' new
-
--- from platform p these requests are done and written, and that of line n is done, of whose transcript line, which has
--- bytes, not all is written
-pub record LineCut (n : ℕ) (before : List Request) (request : Request) (p : Platform) (out out' : Option (List ℕ)) (new : Experiment) : Type 0 where
-  pub some : transcript_line n request (after_all before p) ≢ []
-  pub written : AppendsPrefix out out' (transcript 1 before p) (transcript_line n request (after_all before p))
-  pub at : IsAt (after_all (before ++ request ∷ []) p) new
+-- these requests are done and written, and that of line n is done, of whose transcript line, which
+-- has bytes, not all is written
+pub record LineCut {H : Type 0} (R : Rules H) (n : ℕ) (before : List Request) (request : Request)
+    (out out' : Option (List ℕ)) (old new : Option (Platform H)) : Type 0 where
+  pub some : IfSome old (λ p. transcript_line R n request (after_all R before p) ≢ [])
+  pub written : IfSome old (λ p. AppendsPrefix out out' (transcript R 1 before p)
+      (transcript_line R n request (after_all R before p)))
+  pub at : new ≡ option_map (after_all R (before ++ request ∷ [])) old
 
 -- ---- how a run ended
 
--- the first lines of what was taken are good, and this one comes next, up to whose end the source was read, and at most
--- by one read further
+-- the first lines of what was taken are good, and this one comes next, up to whose end the source
+-- was read, and at most by one read further
 pub record Reached (source source' : Option (List ℕ)) : Type 0 where
   pub taken : List ℕ
   pub ended : Bool
@@ -67,18 +69,19 @@ pub record Reached (source source' : Option (List ℕ)) : Type 0 where
   pub later : List (List ℕ)
   pub lines : script_lines taken ended ≡ first ++ next ∷ later
   pub good : first_bad 1 first ≡ None
-  pub near : length (behind_lines (length first + 1) taken) ≤ read_size
+  pub near : length (after_lines (length first + 1) taken) ≤ READ_SIZE
 
-module _ (source source' out out' : Option (List ℕ)) (old new : Experiment) where
-  -- the lines before the first bad one are done and written, and it is the first whatever follows; all of the source
-  -- was read where there is none
+module _ {H : Type 0} (R : Rules H) (source source' out out' : Option (List ℕ))
+    (old new : Option (Platform H)) where
+  -- the lines before the first bad one are done and written, and it is the first whatever follows;
+  -- all of the source was read where there is none
   pub record AllDone (bad : Option ScriptFault) : Type 0 where
     pub taken : List ℕ
     pub ended : Bool
     pub takes : Takes source source' taken ended
     pub judged : IsSettled bad_in taken ended bad
     pub read : bad ≡ None → ended ≡ true
-    pub done : AllWritten (good_requests 1 (script_lines taken ended)) out out' old new
+    pub done : Written R (good_requests 1 (script_lines taken ended)) out out' old new
     pub near : IsNear bad taken
 
   -- the whole lines that were taken before a read failed are good, done and written
@@ -86,27 +89,33 @@ module _ (source source' out out' : Option (List ℕ)) (old new : Experiment) wh
     pub taken : List ℕ
     pub consumed : TakenUntilFault source source' taken
     pub good : bad_in taken false ≡ None
-    pub done : AllWritten (good_requests 1 (script_lines taken false)) out out' old new
+    pub done : Written R (good_requests 1 (script_lines taken false)) out out' old new
 
   -- the next line was done too, but its transcript line is not whole
   pub record CutShort : Type 0 where
     pub reached : Reached source source'
     pub request : Request
     pub asks : judged (length reached.first + 1) reached.next ≡ Ok request
-    pub cut : (p : Platform) → IsAt p old → LineCut (length reached.first + 1) (good_requests 1 reached.first) request p out out' new
+    pub cut : LineCut R (length reached.first + 1)
+        (good_requests 1 reached.first) request out out' old new
 
   -- memory ran out before the next line was begun, which may want some
   pub record Paused : Type 0 where
     pub reached : Reached source source'
-    pub wants : MayRunOut reached.next (judged (length reached.first + 1) reached.next)
-    pub done : AllWritten (good_requests 1 reached.first) out out' old new
+    pub may : MayRunOut reached.next (judged (length reached.first + 1) reached.next)
+    pub done : Written R (good_requests 1 reached.first) out out' old new
 
--- what a run that ended so took, did and wrote; memory may also run out before anything is asked of the source
-abbrev pub Ran : RunEnd ScriptFault → Intake → Output → Experiment → Experiment → Type 0
-Ran Done s o old new = AllDone s.old.left s.new.left o.old.contents o.new.contents old new None
-Ran (Bad first) s o old new = AllDone s.old.left s.new.left o.old.contents o.new.contents old new (Some first)
-Ran ReadFault s o old new = ReadShort s.old.left s.new.left o.old.contents o.new.contents old new
-Ran (Cut fault) s o old new = CutShort s.old.left s.new.left o.old.contents o.new.contents old new
-Ran NoMemory s o old new =
+-- what a run that ended so took, did and wrote; memory may also run out before anything is asked of
+-- the source
+abbrev pub Ran : {H : Type 0} → Rules H → RunEnd ScriptFault → Intake → Output → Option (Platform H)
+    → Option (Platform H) → Type 0
+Ran R Done s o old new = AllDone R s.old.left s.new.left o.old.contents o.new.contents old new None
+Ran R (Bad first) s o old new =
+    AllDone R s.old.left s.new.left o.old.contents o.new.contents old new (Some first)
+Ran R ReadFault s o old new =
+    ReadShort R s.old.left s.new.left o.old.contents o.new.contents old new
+Ran R (Cut fault) s o old new =
+    CutShort R s.old.left s.new.left o.old.contents o.new.contents old new
+Ran R NoMemory s o old new =
     (s.IsUntouched × NotBegun o.old.contents o.new.contents old new)
-    ⊎ Paused s.old.left s.new.left o.old.contents o.new.contents old new
+    ⊎ Paused R s.old.left s.new.left o.old.contents o.new.contents old new

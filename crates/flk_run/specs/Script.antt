@@ -2,7 +2,7 @@
 use Rattle.std.specs.Prelude.{◌≡◌, ℕ, ◌+◌, true, List, [], ◌∷◌, Option, Some, None, Result, Ok, Err}
 use Rattle.script_text.specs.Grammar.{Request, Nothing}
 use Rattle.script_text.specs.Lines.{words, content}
-use Rattle.script_text.specs.Reading.{judged, IsEarly, words_take}
+use Rattle.script_text.specs.Reading.{judged, IsEarly, words_may_allocate}
 use Rattle.script_text.specs.declared.line.BadLine.{BadLine}
 use Rattle.script_text.specs.declared.line.BadLine.TheVariants.{Faulty, TooMany}
 use Rattle.flk_run.specs.declared.run.ScriptFault.{ScriptFault}
@@ -27,14 +27,15 @@ abbrev pub first_bad : ℕ → List (List ℕ) → Option ScriptFault
 first_bad n [] = None
 first_bad n (line ∷ lines) = bad_or n (judged n line) (first_bad (n + 1) lines)
 
--- a request for something: the room for its transcript line takes memory
+-- a request for something: the room for its transcript line is allocated
 abbrev pub AsksFor : Request → Type 0
 AsksFor Nothing = ⊥
 AsksFor request = Unit {0}
 
--- memory may run out at a line that was judged so: a blank one takes none; nor is any taken before an early fault, or
--- for a bad line that begins with no command with a name or an expression
+-- memory may run out at a line that was judged so: a blank one takes none; nor is any taken before
+-- an early fault, or for a bad line that begins with no command with a name or an expression
 abbrev pub MayRunOut : List ℕ → Result Request BadLine → Type 0
 MayRunOut line (Ok request) = AsksFor request
 MayRunOut line (Err TooMany) = ⊥
-MayRunOut line (Err (Faulty fault)) = (IsEarly fault → ⊥) × (words_take (words (content line)) ≡ true)
+MayRunOut line (Err (Faulty fault)) =
+    (IsEarly fault → ⊥) × (words_may_allocate (words (content line)) ≡ true)

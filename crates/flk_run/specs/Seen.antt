@@ -1,49 +1,73 @@
 -- How clauses see what the code holds while it does an event.
-use Rattle.std.specs.Prelude.{◌≡◌, ℕ, ◌≤◌, List, ◌++◌, length, Bool, true, false}
-use Rattle.script_text.specs.Grammar.{Request}
+use Rattle.std.specs.Prelude.{◌≡◌, ◌≤◌, length, Bool, true, false, [], Some}
+use Rattle.std.specs.Option.{option_map, IfSome}
+use Rattle.seal_device.specs.Digests.{digests}
 use Rattle.script_text.specs.Seen.{IsShortName}
-use Rattle.script_text.specs.Values.{longest_value}
-use Rattle.flk_run.specs.declared.runner.StepEnd.{StepEnd}
-use Rattle.flk_run.specs.declared.runner.StepEnd.TheVariants.{Done, NoMemory}
+use Rattle.expr_text.specs.declared.value.TheConstants.{LONGEST_VALUE}
+use Rattle.expr_text.specs.Variables.{Table}
+use Rattle.flk_base.specs.declared.buffer.Bytes.{Bytes}
+use Rattle.flk_run.specs.declared.disk.SimDisk.{SimDisk}
+use Rattle.flk_run.specs.declared.answers.TheConstants.{LONGEST_OUTPUTS}
+use Rattle.flk_run.specs.declared.answers.Answer.{Answer as HeldAnswer}
+use Rattle.flk_run.specs.declared.answers.Answer.TheVariants as answer
 use Rattle.flk_run.specs.declared.tasks.Task.{Task as HeldTask}
 use Rattle.flk_run.specs.declared.tasks.Task.TheVariants as held
-use Rattle.flk_run.specs.Answers.{line_of}
-use Rattle.flk_run.specs.Events.{Step, step}
-use Rattle.flk_run.specs.Parts.{Experiment, IsAt}
-use Rattle.flk_run.specs.Platform.{Platform}
-use Rattle.flk_run.specs.Tasks.{Task, Rest, Refuse, Extend, Read, Bind, Show, BindImage, Take, Give, Poke, Peek, Dma}
+use Rattle.flk_run.specs.Answers.{Answer, Quiet, Done, Counts, Shows, Registers, Ended, Refused}
+use Rattle.flk_run.specs.Events.{task_step}
+use Rattle.flk_run.specs.Parts.{HostParts, platform_with}
+use Rattle.flk_run.specs.Tasks.{Task, Rest, Refuse, Extend, Read, Bind, Show, BindImage, Take, Give, Poke, Peek, Dma, SetRegister, ShowRegisters, Arm, RunSession}
 
 -- the task, with bytes in place of what holds them
-abbrev pub seen : HeldTask → Task
-seen held.Rest = Rest
-seen (held.Refuse why) = Refuse why
-seen (held.Extend r text) = Extend r text.bytes
-seen (held.Read r) = Read r
-seen (held.Bind name value) = Bind name.now value.bytes
-seen (held.Show value) = Show value.bytes
-seen (held.BindImage name image) = BindImage name.now image.bytes
-seen (held.Take frames) = Take frames
-seen (held.Give at) = Give at
-seen (held.Poke at bytes) = Poke at bytes.bytes
-seen (held.Peek at bytes) = Peek at (length bytes.items)
-seen (held.Dma at bytes) = Dma at bytes.bytes
+abbrev pub seen_task : HeldTask → Task
+seen_task held.Rest = Rest
+seen_task (held.Refuse why) = Refuse why
+seen_task (held.Extend r text) = Extend r text.bytes
+seen_task (held.Read r) = Read r
+seen_task (held.Bind name value) = Bind name.now value.bytes
+seen_task (held.Show value) = Show value.bytes
+seen_task (held.BindImage name image) = BindImage name.now image.bytes
+seen_task (held.Take frames) = Take frames
+seen_task (held.Give at) = Give at
+seen_task (held.Poke at bytes) = Poke at bytes.bytes
+seen_task (held.Peek at bytes) = Peek at (length bytes.items)
+seen_task (held.Dma at bytes) = Dma at bytes.bytes
+seen_task (held.SetRegister reg n) = SetRegister reg n
+seen_task held.ShowRegisters = ShowRegisters
+seen_task (held.Arm turn at bytes) = Arm turn at bytes.bytes
+seen_task (held.RunSession session) =
+    RunSession session.image.bytes session.inputs.bytes session.nonce
+    (option_map (λ bound. bound.name.now) session.bound)
 
 -- the name that a task binds has 1 to 16 bytes
 abbrev pub IsNamed : Task → Type 0
 IsNamed (Bind name value) = IsShortName name
 IsNamed (BindImage name image) = IsShortName name
+IsNamed (RunSession image inputs nonce (Some name)) = IsShortName name
 IsNamed _ = Unit {0}
+
+-- there is room for the outputs of a session, and nothing stands in it
+pub record IsRoom (room : Bytes) : Type 0 where
+  pub none : room.bytes ≡ []
+  pub enough : LONGEST_OUTPUTS ≤ room.spare
+
+-- a task that runs a session has room for its outputs: for showing them, and for the name that it
+-- binds
+abbrev pub HasRoom : HeldTask → Type 0
+HasRoom (held.RunSession session) =
+    IsRoom session.outputs × IfSome session.bound (λ bound. IsRoom bound.value)
+HasRoom other = Unit {0}
 
 -- what a task shows has at most 65,536 bytes
 abbrev pub IsShown : Task → Type 0
-IsShown (Show bytes) = length bytes ≤ longest_value
-IsShown (Peek at count) = count ≤ longest_value
+IsShown (Show bytes) = length bytes ≤ LONGEST_VALUE
+IsShown (Peek at count) = count ≤ LONGEST_VALUE
 IsShown _ = Unit {0}
 
 -- a task binds a name
 abbrev pub binds : Task → Bool
 binds (Bind name value) = true
 binds (BindImage name image) = true
+binds (RunSession image inputs nonce (Some name)) = true
 binds _ = false
 
 -- a task takes a span
@@ -51,12 +75,40 @@ abbrev pub takes : Task → Bool
 takes (Take frames) = true
 takes _ = false
 
--- a step was done, and its line is written behind what was there
-pub record StepDone (n : ℕ) (s : Step) (new : Experiment) (out out' : List ℕ) : Type 0 where
-  pub at : IsAt s.platform new
-  pub written : out' ≡ out ++ line_of n s.answer
+-- a task arms a device write
+abbrev pub arms : Task → Bool
+arms (Arm turn at bytes) = true
+arms _ = false
 
--- an event was done, from each platform that the experiment was at; or there was no memory, and all is as before
-abbrev pub EventStepped : StepEnd → ℕ → Request → Experiment → Experiment → List ℕ → List ℕ → Type 0
-EventStepped Done n request old new out out' = (p : Platform) → IsAt p old → StepDone n (step request p) new out out'
-EventStepped NoMemory n request old new out out' = (new ≡ old) × (out' ≡ out)
+-- the answer, with bytes in place of what holds them
+abbrev pub seen_answer : HeldAnswer → Answer
+seen_answer answer.Quiet = Quiet
+seen_answer answer.Done = Done
+seen_answer (answer.Counts n) = Counts n
+seen_answer (answer.Register value) = Shows value
+seen_answer (answer.Shows value) = Shows value.bytes
+seen_answer (answer.Peeked bytes) = Shows bytes.items
+seen_answer (answer.Registers values) = Registers values
+seen_answer (answer.Ended over) = Ended (record {
+  end = over.end;
+  turns = over.turns;
+  writes_done = over.writes_done;
+  writes_blocked = over.writes_blocked;
+  writes_left = over.writes_left;
+  outputs = over.outputs.bytes;
+})
+seen_answer (answer.Refused why) = Refused why
+
+-- the outputs that an answer shows have at most 4,096 bytes
+abbrev pub HasShortOutputs : Answer → Type 0
+HasShortOutputs (Ended over) = length over.outputs ≤ LONGEST_OUTPUTS
+HasShortOutputs other = Unit {0}
+
+-- a host whose platform is known did the task as the platform does, whatever the disk and the
+-- variables
+abbrev pub Steps : Task → HostParts → HostParts → HeldAnswer → Type 0
+Steps task before after answer =
+    (disk : SimDisk) (variables : Table) →
+    (platform_with after.armed after.board after.spans disk variables, seen_answer answer)
+    ≡ task_step digests task
+    (platform_with before.armed before.board before.spans disk variables)

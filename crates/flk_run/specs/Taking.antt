@@ -6,7 +6,8 @@ use Rattle.region_pool.specs.Spans.{Span, Holds, IsDisjoint}
 use Rattle.machine_memory.specs.Contents.{Contents}
 use Rattle.machine_memory.specs.Spans.{after_take, after_give}
 
--- the span has so many frames from the lowest place on, it serves the host, and the spans that were held stay held
+-- the span has so many frames from the lowest place on, it serves the host, and the spans that were
+-- held stay held
 pub record Took (frames : ℕ) (old new : Contents) (span : Span) : Type 0 where
   pub lowest : IsLowestPlace old.marks frames 1 span.first
   pub long : span.frames ≡ frames

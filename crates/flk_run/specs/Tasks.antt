@@ -1,19 +1,24 @@
 -- What an event comes to once its expressions have their values, which is first.
-use Rattle.std.specs.Prelude.{ℕ, ◌+◌, ◌*◌, nat_lt, List, length, Option, Some, None, Result, Ok, Err, if◌then◌else◌}
-use Rattle.script_text.specs.Expressions.{Term}
-use Rattle.script_text.specs.Variables.{Table}
-use Rattle.script_text.specs.Values.{value_of, longest_value}
-use Rattle.script_text.specs.Grammar.{Request, Nothing, ExtendBy, ReadOf, LetBe, ShowOf, ImageOf, TakeOf, GiveAt, PokeAt, PeekAt, DmaAt}
-use Rattle.script_text.specs.declared.value.ExprFault.{ExprFault}
+use Rattle.std.specs.Prelude.{ℕ, ◌+◌, ◌*◌, ◌==◌, nat_lt, List, length, Option, Some, None, Result, Ok, Err, IsOk, if◌then◌else◌}
+use Rattle.expr_text.specs.Expressions.{Term}
+use Rattle.expr_text.specs.Variables.{Table}
+use Rattle.expr_text.specs.Values.{value_of}
+use Rattle.expr_text.specs.declared.value.TheConstants.{LONGEST_VALUE}
+use Rattle.script_text.specs.Grammar.{Request, Nothing, ExtendBy, ReadOf, LetBe, ShowOf, ImageOf, TakeOf, GiveAt, PokeAt, PeekAt, DmaAt, SetRegOf, RegsOf, ArmAt, SessionOf}
+use Rattle.expr_text.specs.declared.value.ExprFault.{ExprFault}
 use Rattle.slb_image.specs.Image.{pack}
 use Rattle.slb_image.specs.Faults.{build_fault}
 use Rattle.slb_image.specs.declared.fault.ImageFault.{ImageFault}
+use Rattle.flk_run.specs.declared.answers.TheConstants.{LINE_ROOM, REGISTER_ROOM, SESSION_ROOM}
+use Rattle.flk_run.specs.declared.tasks.TheConstants.{NONCE_LEN}
 use Rattle.flk_run.specs.declared.answers.Refusal.{Refusal}
-use Rattle.flk_run.specs.declared.answers.Refusal.TheVariants.{NoValue, NoImage, NoLong}
+use Rattle.flk_run.specs.declared.answers.Refusal.TheVariants.{NoValue, NoImage, NoLong, NoNonce}
 
--- nothing; to answer a refusal; to extend a register by a text; to read one; to bind a name to a value; to show a
--- value; to bind a name to an image, and to answer how long it is; or to take a span of memory, to give one back, to
--- write bytes into one, to show bytes of one, or to have a device write bytes
+-- nothing; to answer a refusal; to extend a register by a text; to read one; to bind a name to a
+-- value; to show a value; to bind a name to an image, and to answer how long it is; to take a span of
+-- memory, to give one back, to write bytes into one, to show bytes of one, or to have a device write
+-- bytes; to set a register of the processor, to show all, to arm a device write for a turn of the
+-- next session, or to run a session, and to bind a name to its outputs
 pub data Task : Type 0 where
   Rest : Task
   Refuse : (why : Refusal) → Task
@@ -27,53 +32,79 @@ pub data Task : Type 0 where
   Poke : (at : ℕ) → (bytes : List ℕ) → Task
   Peek : (at : ℕ) → (count : ℕ) → Task
   Dma : (at : ℕ) → (bytes : List ℕ) → Task
+  SetRegister : (reg : ℕ) → (n : ℕ) → Task
+  ShowRegisters : Task
+  Arm : (turn : ℕ) → (at : ℕ) → (bytes : List ℕ) → Task
+  RunSession : (image inputs nonce : List ℕ) → (var : Option (List ℕ)) → Task
 
 -- the room that is made for the line of a task's answer; nothing has no line
 abbrev pub room : Task → ℕ
 room Rest = 0
-room (Show bytes) = 64 + 2 * length bytes
-room (Peek at count) = 64 + 2 * count
-room other = 104
+room (Show bytes) = LINE_ROOM + 2 * length bytes
+room (Peek at count) = LINE_ROOM + 2 * count
+room (RunSession image inputs nonce var) = SESSION_ROOM
+room other = REGISTER_ROOM
 
--- beside that room, a task takes memory: for a value, for a name, for bytes of memory to show, or for a ticket. A
--- refusal takes none, but an image's fault is found in its code's value
-abbrev pub TakesMemory : Task → Type 0
-TakesMemory Rest = ⊥
-TakesMemory (Refuse (NoImage fault)) = Unit {0}
-TakesMemory (Refuse why) = ⊥
-TakesMemory (Read r) = ⊥
-TakesMemory (Give at) = ⊥
-TakesMemory other = Unit {0}
+-- beside that room, a task may allocate: for a value, for a name, for bytes of memory to show, for a
+-- ticket, or for outputs. A refusal allocates nothing, but an image's fault is found in its code's
+-- value
+abbrev pub MayAllocate : Task → Type 0
+MayAllocate Rest = ⊥
+MayAllocate (Refuse (NoImage fault)) = Unit {0}
+MayAllocate (Refuse why) = ⊥
+MayAllocate (Read r) = ⊥
+MayAllocate (Give at) = ⊥
+MayAllocate (SetRegister reg n) = ⊥
+MayAllocate ShowRegisters = ⊥
+MayAllocate other = Unit {0}
 
 -- the task for a value; the fault of an expression that has none is the answer
-abbrev pub given : Result (List ℕ) ExprFault → (List ℕ → Task) → Task
-given (Ok bytes) task = task bytes
-given (Err fault) task = Refuse (NoValue fault)
+abbrev pub task_or_fault : Result (List ℕ) ExprFault → (List ℕ → Task) → Task
+task_or_fault (Ok bytes) task = task bytes
+task_or_fault (Err fault) task = Refuse (NoValue fault)
 
 -- the task for the value of an expression
-abbrev pub evaluated : List Term → Table → (List ℕ → Task) → Task
-evaluated terms table task = given (value_of terms table) task
+abbrev pub value_task : List Term → Table → (List ℕ → Task) → Task
+value_task terms table task = task_or_fault (value_of terms table) task
 
 -- the image, where the values have one
-abbrev pub imaged : List ℕ → Option ImageFault → List ℕ → Task
-imaged name None image = BindImage name image
-imaged name (Some fault) image = Refuse (NoImage fault)
+abbrev pub image_or_fault : List ℕ → Option ImageFault → List ℕ → Task
+image_or_fault name None image = BindImage name image
+image_or_fault name (Some fault) image = Refuse (NoImage fault)
 
 -- to show so many bytes, where they are no more than a value may have
-abbrev pub peeked : ℕ → ℕ → Task
-peeked at count = if nat_lt longest_value count then Refuse NoLong else Peek at count
+abbrev pub peek_or_long : ℕ → ℕ → Task
+peek_or_long at count = if nat_lt LONGEST_VALUE count then Refuse NoLong else Peek at count
+
+-- a session, where the nonce has 20 bytes
+abbrev pub session_or_nonce : List ℕ → List ℕ → List ℕ → Option (List ℕ) → Task
+session_or_nonce image inputs nonce var =
+    if length nonce == NONCE_LEN then RunSession image inputs nonce var else Refuse NoNonce
 
 -- what a request comes to
 abbrev pub task_of : Request → Table → Task
 task_of Nothing table = Rest
-task_of (ExtendBy r text) table = evaluated text table (λ bytes. Extend r bytes)
+task_of (ExtendBy r text) table = value_task text table (λ bytes. Extend r bytes)
 task_of (ReadOf r) table = Read r
-task_of (LetBe name value) table = evaluated value table (λ bytes. Bind name bytes)
-task_of (ShowOf value) table = evaluated value table (λ bytes. Show bytes)
+task_of (LetBe name value) table = value_task value table (λ bytes. Bind name bytes)
+task_of (ShowOf value) table = value_task value table (λ bytes. Show bytes)
 task_of (ImageOf name job entry budget code) table =
-    evaluated code table (λ bytes. imaged name (build_fault entry budget bytes) (pack entry budget job bytes))
+    value_task code table (λ bytes.
+    image_or_fault name (build_fault entry budget bytes) (pack entry budget job bytes))
 task_of (TakeOf frames) table = Take frames
 task_of (GiveAt at) table = Give at
-task_of (PokeAt at bytes) table = evaluated bytes table (λ value. Poke at value)
-task_of (PeekAt at count) table = peeked at count
-task_of (DmaAt at bytes) table = evaluated bytes table (λ value. Dma at value)
+task_of (PokeAt at bytes) table = value_task bytes table (λ value. Poke at value)
+task_of (PeekAt at count) table = peek_or_long at count
+task_of (DmaAt at bytes) table = value_task bytes table (λ value. Dma at value)
+task_of (SetRegOf reg n) table = SetRegister reg n
+task_of RegsOf table = ShowRegisters
+task_of (ArmAt turn at bytes) table = value_task bytes table (λ value. Arm turn at value)
+task_of (SessionOf image inputs nonce var) table =
+    value_task image table (λ image.
+    value_task inputs table (λ inputs.
+    value_task nonce table (λ nonce. session_or_nonce image inputs nonce var)))
+
+-- a request may allocate where its task may; that of a session, where its first expression has a value
+abbrev pub MayAllocateFor : Request → Table → Type 0
+MayAllocateFor (SessionOf image inputs nonce var) table = IsOk (value_of image table)
+MayAllocateFor other table = MayAllocate (task_of other table)

@@ -1,175 +1,134 @@
-// What an event does to the board and the variables.
-ghost use Rattle.std.specs.Prelude.{◌≡◌, ◌≤◌, ◌+◌, ◌*◌, List, length, true, false, vec_len, vec_capacity, IsOk, OnOk};
-ghost use Rattle.script_text.specs.Seen.{request_of, HasShortName, IsShortName};
-ghost use Rattle.region_pool.specs.Spans.{Span};
-ghost use Rattle.flk_run.specs.declared.board.SimDisk.{SimDisk as DiskView};
-ghost use Rattle.flk_run.specs.Platform.{Platform};
-ghost use Rattle.flk_run.specs.Events.{done, extended_by_host, register_shown};
-ghost use Rattle.flk_run.specs.Tasks.{Bind, BindImage, room, task_of, TakesMemory};
-ghost use Rattle.flk_run.specs.Parts.{BoardParts, HoldsSpans, IsAt, experiment};
-ghost use Rattle.script_text.specs.Variables.{Table};
-ghost use Rattle.flk_run.specs.Seen.{seen, binds, takes, IsNamed, StepDone, EventStepped};
+// What an event does, once its values are there.
+ghost use Rattle.std.specs.Prelude.{◌≡◌, ◌≤◌, true, false, IfOk, IsErr, OnErr};
+ghost use Rattle.script_text.specs.Seen.{IsShortName};
+ghost use Rattle.seal_device.specs.Digests.{digests};
+ghost use Rattle.flk_run.specs.declared.disk.SimDisk.{SimDisk as DiskView};
+ghost use Rattle.flk_run.specs.Answers.{room_of};
+ghost use Rattle.flk_run.specs.Events.{task_step};
+ghost use Rattle.flk_run.specs.Parts.{platform_with};
+ghost use Rattle.flk_run.specs.Seen.{seen_task, seen_answer, binds, takes, arms, IsNamed, IsRoom, HasRoom, HasShortOutputs};
+ghost use Rattle.flk_run.specs.Tasks.{room, MayAllocate};
+ghost use Rattle.flk_run.specs.Sessions.{table_after};
+ghost use Rattle.flk_run.specs.declared.answers.TheConstants.{SESSION_ROOM};
+ghost use Rattle.flk_run.specs.declared.tasks.Task.TheVariants as HeldTask;
 
-use crate::answers::{Refusal, put_count, put_done, put_refusal, put_value};
-use crate::board::Board;
-use crate::memory::{do_dma, do_give, do_peek, do_poke, do_take};
-use crate::runner::StepEnd;
-use crate::spans::room_for_ticket;
-use crate::tasks::{Task, task_of};
+use crate::answers::Answer;
+use crate::host::Host;
+use crate::tasks::{Bound, SessionTask, Task};
 use flk_base::{Bytes, NoMemory};
-use region_pool::Ticket;
-use script_text::{Event, Vars};
-use std::alloc::Global;
+use script_text::Vars;
 
-/// Does an event where there is memory for it: for the values of its expressions, for its line of the
-/// transcript, for the name that it binds, and for its ticket. All of that is taken before anything changes.
-pub(crate) fn do_event(
-    alloc: Global,
-    board: &mut Board,
+/// Does a task, for whose name, ticket and outputs there is room. Where memory runs out, as it may for
+/// a write that is armed, nothing is done.
+pub(crate) fn perform(
+    host: Host,
     vars: &mut Vars,
-    tickets: &mut Vec<Ticket>,
-    number: u32,
-    event: &Event,
-    answer: &mut Bytes,
-) -> StepEnd
-    requires named { HasShortName (request_of event.now) }
-    requires held { HoldsSpans board.old.memory.marks tickets.old.items }
-    ensures stepped { (disk : DiskView) → EventStepped result number (request_of event.now)
-        (experiment board.old disk vars.old.table tickets.old.items)
-        (experiment board.new disk vars.new.table tickets.new.items)
-        answer.old.bytes answer.new.bytes }
-    ensures held { HoldsSpans board.new.memory.marks tickets.new.items }
-    ensures want { result ≡ StepEnd.NoMemory → room (task_of (request_of event.now) vars.old.table) ≤ answer.old.spare
-        → TakesMemory (task_of (request_of event.now) vars.old.table) }
-{
-    let Ok(task) = task_of(alloc, event, vars) else {
-        return StepEnd::NoMemory;
-    };
-    if answer.reserve(task.room()).is_err() {
-        return StepEnd::NoMemory;
-    }
-    if room_for_name(&task, vars).is_err() {
-        return StepEnd::NoMemory;
-    }
-    if room_for_span(&task, tickets).is_err() {
-        return StepEnd::NoMemory;
-    }
-    do_task(board, vars, tickets, number, task, answer);
-    StepEnd::Done
-}
-
-// Makes room for the name that a task binds, where it binds one.
-fn room_for_name(task: &Task<'_>, vars: &mut Vars) -> Result<(), NoMemory>
-    ensures table { vars.new.table ≡ vars.old.table }
-    ensures room { OnOk result (binds (seen task.now) ≡ true → 1 ≤ vars.new.spare) }
-    ensures unwanted { binds (seen task.now) ≡ false → IsOk result }
-{
-    if task.binds() {
-        return vars.room();
-    }
-    Ok(())
-}
-
-// Makes room for the ticket that a task takes, where it takes one.
-fn room_for_span(task: &Task<'_>, tickets: &mut Vec<Ticket>) -> Result<(), NoMemory>
-    ensures kept { tickets.new.items ≡ tickets.old.items }
-    ensures room { OnOk result (takes (seen task.now) ≡ true → vec_len tickets.new + 1 ≤ vec_capacity tickets.new) }
-    ensures unwanted { takes (seen task.now) ≡ false → IsOk result }
-{
-    if task.takes() {
-        return room_for_ticket(tickets);
-    }
-    Ok(())
-}
-
-// Does a task, for whose line, name and ticket there is room.
-fn do_task(
-    board: &mut Board,
-    vars: &mut Vars,
-    tickets: &mut Vec<Ticket>,
-    number: u32,
     task: Task<'_>,
-    answer: &mut Bytes,
-)
-    requires line { room (seen task) ≤ answer.old.spare }
-    requires named { IsNamed (seen task) }
-    requires free { binds (seen task) ≡ true → 1 ≤ vars.old.spare }
-    requires ticket { takes (seen task) ≡ true → vec_len tickets.old + 1 ≤ vec_capacity tickets.old }
-    requires held { HoldsSpans board.old.memory.marks tickets.old.items }
-    ensures done { (p : Platform) (disk : DiskView) → IsAt p (experiment board.old disk vars.old.table tickets.old.items)
-        → StepDone number (done (seen task.entry) p) (experiment board.new disk vars.new.table tickets.new.items) answer.old.bytes answer.new.bytes }
-    ensures held { HoldsSpans board.new.memory.marks tickets.new.items }
+) -> (Host, Result<Answer, NoMemory>)
+    requires named { IsNamed (seen_task task) }
+    requires room { HasRoom task }
+    requires name { binds (seen_task task) ≡ true → 1 ≤ vars.old.spare }
+    requires ticket { takes (seen_task task) ≡ true → 1 ≤ host.spare }
+    ensures untaken { result.0.untaken ≡ host.untaken }
+    ensures done { IfOk result.1 (λ answer. host.untaken ≡ true → (disk : DiskView) →
+        (platform_with result.0.armed result.0.board result.0.spans disk vars.new.table, seen_answer answer)
+        ≡ task_step digests (seen_task task.entry)
+        (platform_with host.armed host.board host.spans disk vars.old.table)) }
+    ensures fits { IfOk result.1 (λ answer. room_of (seen_answer answer) ≤ room (seen_task task.entry)) }
+    ensures short { IfOk result.1 (λ answer. HasShortOutputs (seen_answer answer)) }
+    ensures kept { OnErr result.1 (result.0 ≡ host) }
+    ensures table { OnErr result.1 (vars.new.table ≡ vars.old.table) }
+    ensures memory { IsErr result.1 → MayAllocate (seen_task task.entry) }
 {
     match task {
-        Task::Rest => {}
-        Task::Refuse(refusal) => put_refusal(answer, number, refusal),
-        Task::Extend { r, text } => extend(board, number, r, text.as_slice(), answer),
-        Task::Read { r } => read(board, number, r, answer),
-        Task::Bind { name, value } => bind(vars, number, name, value, answer),
-        Task::Show { value } => put_value(answer, number, value.as_slice()),
-        Task::BindImage { name, image } => bind_image(vars, number, name, image, answer),
-        Task::Take { frames } => do_take(board, tickets, number, frames, answer),
-        Task::Give { at } => do_give(board, tickets, number, at, answer),
-        Task::Poke { at, bytes } => do_poke(board, number, at, bytes.as_slice(), answer),
-        Task::Peek { at, mut bytes } => do_peek(board, number, at, &mut bytes, answer),
-        Task::Dma { at, bytes } => do_dma(board, number, at, bytes.as_slice(), answer),
-    }
-}
-
-fn extend(board: &mut Board, number: u32, r: u32, text: &[u8], answer: &mut Bytes)
-    requires { 64 ≤ answer.old.spare }
-    ensures done { (p : Platform) (disk : DiskView) (table : Table) (spans : List Span) → IsAt p (experiment board.old disk table spans)
-        → StepDone number (extended_by_host r text.now p) (experiment board.new disk table spans) answer.old.bytes answer.new.bytes }
-    ensures memory { board.new.memory ≡ board.old.memory }
-{
-    match board.extend(r, b"host", text) {
-        Ok(()) => {
-            put_done(answer, number);
-            return;
-        }
-        Err(_) => {
-            put_refusal(answer, number, Refusal::NoRegister);
-            return;
+        Task::Arm { turn, at, bytes } => return host.arm(turn, at, bytes.as_slice()),
+        task => {
+            let (host, answer) = done(host, vars, task);
+            return (host, Ok(answer));
         }
     }
 }
 
-fn read(board: &Board, number: u32, r: u32, answer: &mut Bytes)
-    requires { 104 ≤ answer.old.spare }
-    ensures { (p : Platform) (disk : DiskView) (table : Table) (spans : List Span) → IsAt p (experiment board.now disk table spans)
-        → StepDone number (register_shown r p) (experiment board.now disk table spans) answer.old.bytes answer.new.bytes }
+// Does a task that allocates nothing.
+fn done(host: Host, vars: &mut Vars, task: Task<'_>) -> (Host, Answer)
+    requires named { IsNamed (seen_task task) }
+    requires room { HasRoom task }
+    requires name { binds (seen_task task) ≡ true → 1 ≤ vars.old.spare }
+    requires ticket { takes (seen_task task) ≡ true → 1 ≤ host.spare }
+    requires unarmed { arms (seen_task task) ≡ false }
+    ensures untaken { result.0.untaken ≡ host.untaken }
+    ensures done { host.untaken ≡ true → (disk : DiskView) →
+        (platform_with result.0.armed result.0.board result.0.spans disk vars.new.table, seen_answer result.1)
+        ≡ task_step digests (seen_task task.entry)
+        (platform_with host.armed host.board host.spans disk vars.old.table) }
+    ensures fits { room_of (seen_answer result.1) ≤ room (seen_task task.entry) }
+    ensures short { HasShortOutputs (seen_answer result.1) }
 {
-    match board.read_register(r) {
-        Ok(value) => {
-            put_value(answer, number, &value);
-            return;
+    match task {
+        Task::Rest => return (host, Answer::Quiet),
+        Task::Refuse(refusal) => return (host, Answer::Refused(refusal)),
+        Task::Extend { r, text } => return host.extend(r, text.as_slice()),
+        Task::Read { r } => return host.read(r),
+        Task::Bind { name, value } => {
+            vars.put(name, value);
+            return (host, Answer::Done);
         }
-        Err(_) => {
-            put_refusal(answer, number, Refusal::NoRegister);
-            return;
+        Task::Show { value } => return (host, Answer::Shows(value)),
+        Task::BindImage { name, image } => {
+            let length = image.as_slice().len();
+            vars.put(name, image);
+            return (host, Answer::Counts(length));
         }
+        Task::Take { frames } => return host.take(frames),
+        Task::Give { at } => return host.give(at),
+        Task::Poke { at, bytes } => return host.poke(at, bytes.as_slice()),
+        Task::Peek { at, bytes } => return host.peek(at, bytes),
+        Task::Dma { at, bytes } => return host.dma(at, bytes.as_slice()),
+        Task::SetRegister { reg, n } => return host.set_register(reg, n),
+        Task::ShowRegisters => return host.show_registers(),
+        Task::Arm { .. } => unreachable!(),
+        Task::RunSession(session) => return run_session(host, vars, session),
     }
 }
 
-fn bind(vars: &mut Vars, number: u32, name: &[u8], value: Bytes, answer: &mut Bytes)
-    requires line { 64 ≤ answer.old.spare }
-    requires named { IsShortName name.now }
-    requires free { 1 ≤ vars.old.spare }
-    ensures { (p : Platform) (disk : DiskView) (board : BoardParts) (spans : List Span) → IsAt p (experiment board disk vars.old.table spans)
-        → StepDone number (done (Bind name.now value.bytes) p) (experiment board disk vars.new.table spans) answer.old.bytes answer.new.bytes }
+// Runs a session, and binds its name to the outputs, where it has one and the session ended.
+fn run_session(host: Host, vars: &mut Vars, session: SessionTask<'_>) -> (Host, Answer)
+    requires named { IsNamed (seen_task (HeldTask.RunSession session)) }
+    requires room { HasRoom (HeldTask.RunSession session) }
+    requires name { binds (seen_task (HeldTask.RunSession session)) ≡ true → 1 ≤ vars.old.spare }
+    ensures untaken { result.0.untaken ≡ host.untaken }
+    ensures done { host.untaken ≡ true → (disk : DiskView) →
+        (platform_with result.0.armed result.0.board result.0.spans disk vars.new.table, seen_answer result.1)
+        ≡ task_step digests (seen_task (HeldTask.RunSession session.entry))
+        (platform_with host.armed host.board host.spans disk vars.old.table) }
+    ensures fits { room_of (seen_answer result.1) ≤ SESSION_ROOM }
+    ensures short { HasShortOutputs (seen_answer result.1) }
 {
-    vars.put(name, value);
-    put_done(answer, number);
+    let SessionTask {
+        image,
+        inputs,
+        nonce,
+        outputs,
+        bound,
+    } = session;
+    let (host, answer) = host.session(image.as_slice(), inputs.as_slice(), &nonce, outputs);
+    if let Some(Bound { name, value }) = bound {
+        bind_outputs(vars, name, value, &answer);
+    }
+    (host, answer)
 }
 
-fn bind_image(vars: &mut Vars, number: u32, name: &[u8], image: Bytes, answer: &mut Bytes)
-    requires line { 64 ≤ answer.old.spare }
-    requires named { IsShortName name.now }
-    requires free { 1 ≤ vars.old.spare }
-    ensures { (p : Platform) (disk : DiskView) (board : BoardParts) (spans : List Span) → IsAt p (experiment board disk vars.old.table spans)
-        → StepDone number (done (BindImage name.now image.bytes) p) (experiment board disk vars.new.table spans) answer.old.bytes answer.new.bytes }
+// Binds a name to the outputs of a session that ended.
+fn bind_outputs(vars: &mut Vars, name: &[u8], value: Bytes, answer: &Answer)
+    requires name { IsShortName name.now }
+    requires room { IsRoom value }
+    requires spare { 1 ≤ vars.old.spare }
+    requires short { HasShortOutputs (seen_answer answer.now) }
+    ensures { vars.new.table ≡ table_after name.now (seen_answer answer.now) vars.old.table }
 {
-    let length = image.as_slice().len();
-    vars.put(name, image);
-    put_count(answer, number, length);
+    if let Answer::Ended(over) = answer {
+        let mut value = value;
+        value.put(over.outputs.as_slice());
+        vars.put(name, value);
+    }
 }

@@ -1,19 +1,22 @@
-//! Runs the events of a script on a board and a disk, and says what a platform of plain lists would answer.
+//! Runs the events of a script on a board and a disk, and says what a platform of plain lists would
+//! answer.
 #![tactic(auto)]
 
 mod answers;
 mod board;
+mod disk;
 mod events;
-mod memory;
+mod host;
+mod laws;
 mod run;
 mod runner;
 mod spans;
 mod tasks;
-#[cfg(test)]
-mod tests;
 
 pub use answers::Refusal;
-pub use board::{Board, SimDisk};
+pub use disk::SimDisk;
+pub use late_launch::Board;
+pub use laws::{blank_board_is_blank, script_is_one_plan, scripts_by_lists};
 pub use run::{ScriptFault, run_script};
 pub use runner::{Runner, StepEnd};
 pub use spans::Spans;

@@ -1,20 +1,23 @@
 // Runs a script, line by line.
-ghost use Rattle.std.specs.Prelude.{◌≡◌, ℕ, ◌≤◌, ◌+◌, List, [], false};
+ghost use Rattle.std.specs.Prelude.{◌≡◌, ℕ, ◌≤◌, ◌+◌, List, [], false, Some};
 ghost use Rattle.flk_base.specs.Streams.{intake, output};
 ghost use Rattle.flk_base.specs.RunEnds.{HasCauses, WriteHasCause};
-ghost use Rattle.script_text.specs.Lines.{most_lines};
+ghost use Rattle.seal_device.specs.Digests.{digests};
+ghost use Rattle.seal_device.specs.Lists.{lists};
 ghost use Rattle.script_text.specs.Reading.{judged};
 ghost use Rattle.script_text.specs.Seen.{request_of, HasShortName};
+ghost use Rattle.flk_run.specs.Agreement.{AgreesByLists};
+ghost use Rattle.flk_run.specs.Platform.{ListPlatform, platform_digested};
+ghost use Rattle.flk_run.specs.Parts.{platform};
 ghost use Rattle.flk_run.specs.Runs.{Ran};
 ghost use Rattle.flk_run.specs.LineRuns.{LineRan};
 
 use crate::runner::{Runner, StepEnd};
 use flk_base::{Bytes, RunEnd, Sink, Source};
-use script_text::{AnyEnd, BadLine, Event, LineEnd, LineError, LineFault, LineReader, read_line};
+use script_text::{
+    AnyEnd, BadLine, Event, LineEnd, LineError, LineFault, LineReader, MOST_LINES, read_line,
+};
 use std::alloc::Global;
-
-/// The most lines that a script may have.
-const MOST_LINES: u32 = 100_000;
 
 /// The first bad line of a script.
 #[derive(Clone, Copy, Debug, PartialEq, Eq)]
@@ -25,18 +28,27 @@ pub struct ScriptFault {
     pub bad: BadLine,
 }
 
-/// Runs a script up to its end, its first bad line or a fault. Each line is done, and its line of the
-/// transcript is written by one put, before a further read is made for a line that is not whole.
+/// Runs a script up to its end, its first bad line or a fault. Each line is done, and its line of
+/// the transcript is written by one put, before a further read is made for a line that is not
+/// whole.
 pub fn run_script<S: Source, K: Sink>(
     alloc: Global,
     source: &mut S,
     out: &mut K,
     runner: Runner,
 ) -> (Runner, RunEnd<ScriptFault>)
-    // What was taken, done and written, for every platform that the runner's board and disk hold.
-    ensures ran { Ran result.1 (intake S.Source source.old source.new) (output K.Sink out.old out.new) runner result.0 }
+    // What was taken, done and written, on the platform by digests.
+    ensures ran { Ran digests result.1 (intake S.Source source.old source.new)
+        (output K.Sink out.old out.new) (platform runner) (platform result.0) }
+    // The same by lists, from each platform that stands for the runner's.
+    ensures lists { (p : ListPlatform) → platform runner ≡ Some (platform_digested p) →
+        AgreesByLists (Ran lists result.1 (intake S.Source source.old source.new)
+        (output K.Sink out.old out.new)) p (platform result.0) }
+    // Whether the platform is known stays as it was.
+    ensures untaken { result.0.untaken ≡ runner.untaken }
     // No fault is passed over, or reported as another end.
-    ensures caused { HasCauses result.1 (intake S.Source source.old source.new) (output K.Sink out.old out.new) }
+    ensures caused { HasCauses result.1 (intake S.Source source.old source.new)
+        (output K.Sink out.old out.new) }
 {
     match LineReader::new(alloc) {
         Ok(reader) => run_lines(alloc, reader, source, out, runner),
@@ -53,8 +65,11 @@ fn run_lines<S: Source, K: Sink>(
     runner: Runner,
 ) -> (Runner, RunEnd<ScriptFault>)
     requires { reader ≡ record { bytes = []; ended = false; line = [] } }
-    ensures ran { Ran result.1 (intake S.Source source.old source.new) (output K.Sink out.old out.new) runner result.0 }
-    ensures caused { HasCauses result.1 (intake S.Source source.old source.new) (output K.Sink out.old out.new) }
+    ensures ran { Ran digests result.1 (intake S.Source source.old source.new)
+        (output K.Sink out.old out.new) (platform runner) (platform result.0) }
+    ensures untaken { result.0.untaken ≡ runner.untaken }
+    ensures caused { HasCauses result.1 (intake S.Source source.old source.new)
+        (output K.Sink out.old out.new) }
 {
     let mut reader = reader;
     let mut runner = runner;
@@ -92,7 +107,7 @@ fn bad_line(line: u32, fault: LineFault) -> RunEnd<ScriptFault>
 
 // There is one line too many.
 fn too_many_lines() -> RunEnd<ScriptFault>
-    ensures { result ≡ RunEnd.Bad (record { line = most_lines + 1; bad = BadLine.TooMany }) }
+    ensures { result ≡ RunEnd.Bad (record { line = MOST_LINES + 1; bad = BadLine.TooMany }) }
 {
     RunEnd::Bad(ScriptFault {
         line: MOST_LINES + 1,
@@ -108,8 +123,10 @@ fn run_line<K: Sink>(
     runner: Runner,
     out: &mut K,
 ) -> (Runner, RunEnd<ScriptFault>)
-    requires { number ≤ most_lines }
-    ensures ran { LineRan result.1 number line.now (judged number line.now) (K.contents out.old) (K.contents out.new) runner result.0 }
+    requires { number ≤ MOST_LINES }
+    ensures ran { LineRan result.1 number line.now (judged number line.now) (K.contents out.old)
+        (K.contents out.new) (platform runner) (platform result.0) }
+    ensures untaken { result.0.untaken ≡ runner.untaken }
     ensures caused { WriteHasCause result.1 (output K.Sink out.old out.new) }
 {
     match read_line(alloc, line) {
@@ -128,7 +145,10 @@ fn run_event<K: Sink>(
     out: &mut K,
 ) -> (Runner, RunEnd<ScriptFault>)
     requires { HasShortName (request_of event.now) }
-    ensures ran { (text : List ℕ) → LineRan result.1 number text (Ok (request_of event.now)) (K.contents out.old) (K.contents out.new) runner result.0 }
+    ensures ran { (text : List ℕ)
+        → LineRan result.1 number text (Ok (request_of event.now)) (K.contents out.old)
+        (K.contents out.new) (platform runner) (platform result.0) }
+    ensures untaken { result.0.untaken ≡ runner.untaken }
     ensures caused { WriteHasCause result.1 (output K.Sink out.old out.new) }
 {
     let mut answer = Bytes::new(alloc);

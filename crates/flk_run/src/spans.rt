@@ -2,8 +2,9 @@
 ghost use Rattle.std.specs.Prelude.{◌≡◌, ◌+◌, ◌≤◌, ◌<◌, ◌==◌, ◌∷◌, [], ◌++◌, vec_len, vec_capacity, position, OnOk};
 ghost use Rattle.machine_memory.specs.Contents.{first_byte};
 
-use crate::board::Board;
+use crate::board::give;
 use flk_base::NoMemory;
+use late_launch::Board;
 use region_pool::Ticket;
 use std::alloc::Global;
 use std::marker::Model;
@@ -23,10 +24,10 @@ impl Model for Spans {
 }
 
 impl Spans {
-    ghost use Rattle.flk_run.specs.Parts.{HoldsSpans};
+    ghost use Rattle.flk_run.specs.Parts.{HoldsSpans, KeepsDevice};
     ghost use Rattle.flk_run.specs.Taking.{after_give_all};
 
-    /// No spans, which take no memory.
+    /// No spans, which allocate nothing.
     pub fn none(alloc: Global) -> Spans
         ensures { result ≡ [] }
     {
@@ -39,11 +40,11 @@ impl Spans {
     pub fn give_all(self, board: &mut Board)
         requires { HoldsSpans board.old.memory.marks self }
         ensures given { board.new.memory ≡ after_give_all board.old.memory self }
-        ensures registers { board.new.registers ≡ board.old.registers }
+        ensures device { KeepsDevice board.old board.new }
     {
         let Spans { mut tickets } = self;
         while let Some(ticket) = tickets.pop() {
-            board.give(ticket);
+            give(board, ticket);
         }
         tickets.destroy_empty();
     }

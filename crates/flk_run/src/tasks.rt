@@ -1,27 +1,38 @@
 // What an event comes to once its expressions have their values.
-ghost use Rattle.std.specs.Prelude.{◌≡◌, ◌≤◌, length, replicate, IfOk, IsOk, IsErr};
-ghost use Rattle.script_text.specs.Values.{value_of, longest_value};
+ghost use Rattle.std.specs.Prelude.{◌≡◌, ◌≤◌, length, replicate, IfOk, IsOk, IsErr, MatchResult, Ok, Err};
+ghost use Rattle.std.specs.Option.{option_map, IfSome};
+ghost use Rattle.expr_text.specs.Values.{value_of};
 ghost use Rattle.script_text.specs.Seen.{request_of, HasShortName};
-ghost use Rattle.script_text.specs.declared.value.ExprFault.{ExprFault};
 ghost use Rattle.slb_image.specs.Faults.{build_fault};
 ghost use Rattle.slb_image.specs.Image.{pack};
-ghost use Rattle.flk_run.specs.Tasks.{Refuse, Extend, Bind, Show, Poke, Dma, evaluated, imaged, peeked, room, task_of, TakesMemory};
-ghost use Rattle.flk_run.specs.Seen.{seen, binds, takes, IsNamed, IsShown};
+ghost use Rattle.flk_run.specs.Tasks.{Extend, Bind, Show, Poke, Dma, Arm, value_task, image_or_fault, peek_or_long, session_or_nonce, room, task_of, MayAllocateFor};
+ghost use Rattle.flk_run.specs.Seen.{seen_task, binds, takes, IsNamed, IsShown, IsRoom, HasRoom};
 
-use crate::answers::Refusal;
+use crate::answers::{LINE_ROOM, LONGEST_OUTPUTS, REGISTER_ROOM, Refusal, SESSION_ROOM};
 use flk_base::{Bytes, NoMemory};
-use script_text::{Event, Expr, ExprError, Vars};
+use script_text::{Event, Expr, ExprError, ExprFault, LONGEST_VALUE, Vars};
 use slb_image::{BuildError, build};
 use std::alloc::Global;
 
-/// The room that a line of the transcript has, beside the digits of a value.
-const LINE_ROOM: usize = 64;
+/// How many bytes a nonce has.
+pub(crate) const NONCE_LEN: usize = 20;
 
-/// The room that it has with the value of a register.
-const REGISTER_ROOM: usize = LINE_ROOM + 40;
+/// A name that a session binds to its outputs, for which there is room.
+#[derive(Drop)]
+pub(crate) struct Bound<'e> {
+    pub(crate) name: &'e [u8],
+    pub(crate) value: Bytes,
+}
 
-/// The most bytes that a value may have.
-const LONGEST_VALUE: usize = 65_536;
+/// A session: its image, inputs and nonce, room for its outputs, and the name that it binds to them.
+#[derive(Drop)]
+pub(crate) struct SessionTask<'e> {
+    pub(crate) image: Bytes,
+    pub(crate) inputs: Bytes,
+    pub(crate) nonce: [u8; NONCE_LEN],
+    pub(crate) outputs: Bytes,
+    pub(crate) bound: Option<Bound<'e>>,
+}
 
 /// What an event comes to: what there is to do, with the values of its expressions.
 #[derive(Drop)]
@@ -50,26 +61,44 @@ pub(crate) enum Task<'e> {
     Peek { at: u32, bytes: Vec<u8> },
     /// To write bytes for a device.
     Dma { at: u32, bytes: Bytes },
+    /// To set a register of the processor.
+    SetRegister { reg: u8, n: u32 },
+    /// To show the registers of the processor.
+    ShowRegisters,
+    /// To arm a device write for a turn of the next session.
+    Arm { turn: u32, at: u32, bytes: Bytes },
+    /// To run a session.
+    RunSession(SessionTask<'e>),
 }
 
-// The answer that an expression has no value; there is none where memory ran out.
-fn refused(error: ExprError) -> Result<Task<'static>, NoMemory>
-    ensures refused { IfOk result (λ task. (fault : ExprFault) × (error ≡ ExprError.Fault fault) × (seen task ≡ Refuse (Refusal.NoValue fault))) }
-    ensures want { IsErr result → error ≡ ExprError.NoMemory }
+// What an expression is worth: its value, or why it has none; neither where memory ran out.
+fn worth(
+    alloc: Global,
+    expression: &Expr,
+    vars: &Vars,
+) -> Result<Result<Bytes, ExprFault>, NoMemory>
+    ensures worth { IfOk result (λ worth. MatchResult worth
+        (λ value. value_of expression.now vars.now.table ≡ Ok value.bytes)
+        (λ fault. value_of expression.now vars.now.table ≡ Err fault)) }
+    ensures short { IfOk result
+        (λ worth. IfOk worth (λ value. length value.bytes ≤ LONGEST_VALUE)) }
+    ensures memory { IsErr result → IsOk (value_of expression.now vars.now.table) }
 {
-    match error {
-        ExprError::Fault(fault) => return Ok(Task::Refuse(Refusal::NoValue(fault))),
-        ExprError::NoMemory => return Err(NoMemory),
+    match expression.value(alloc, vars) {
+        Ok(value) => return Ok(Ok(value)),
+        Err(ExprError::Fault(fault)) => return Ok(Err(fault)),
+        Err(ExprError::NoMemory) => return Err(NoMemory),
     }
 }
 
 fn extend_task(alloc: Global, r: u32, text: &Expr, vars: &Vars) -> Result<Task<'static>, NoMemory>
-    ensures task { IfOk result (λ task. seen task ≡ evaluated text.now vars.now.table (λ bytes. Extend r bytes)) }
-    ensures want { IsErr result → IsOk (value_of text.now vars.now.table) }
+    ensures task { IfOk result
+        (λ task. seen_task task ≡ value_task text.now vars.now.table (λ bytes. Extend r bytes)) }
+    ensures memory { IsErr result → IsOk (value_of text.now vars.now.table) }
 {
-    match text.value(alloc, vars) {
+    match worth(alloc, text, vars)? {
         Ok(text) => return Ok(Task::Extend { r, text }),
-        Err(error) => return refused(error),
+        Err(fault) => return Ok(Task::Refuse(Refusal::NoValue(fault))),
     }
 }
 
@@ -79,23 +108,26 @@ fn bind_task<'e>(
     value: &Expr,
     vars: &Vars,
 ) -> Result<Task<'e>, NoMemory>
-    ensures task { IfOk result (λ task. seen task ≡ evaluated value.now vars.now.table (λ bytes. Bind name.now bytes)) }
-    ensures want { IsErr result → IsOk (value_of value.now vars.now.table) }
+    ensures task { IfOk result
+        (λ task. seen_task task ≡ value_task value.now vars.now.table
+        (λ bytes. Bind name.now bytes)) }
+    ensures memory { IsErr result → IsOk (value_of value.now vars.now.table) }
 {
-    match value.value(alloc, vars) {
+    match worth(alloc, value, vars)? {
         Ok(value) => return Ok(Task::Bind { name, value }),
-        Err(error) => return refused(error),
+        Err(fault) => return Ok(Task::Refuse(Refusal::NoValue(fault))),
     }
 }
 
 fn show_task(alloc: Global, value: &Expr, vars: &Vars) -> Result<Task<'static>, NoMemory>
-    ensures task { IfOk result (λ task. seen task ≡ evaluated value.now vars.now.table (λ bytes. Show bytes)) }
-    ensures want { IsErr result → IsOk (value_of value.now vars.now.table) }
-    ensures shown { IfOk result (λ task. IsShown (seen task)) }
+    ensures task { IfOk result
+        (λ task. seen_task task ≡ value_task value.now vars.now.table (λ bytes. Show bytes)) }
+    ensures memory { IsErr result → IsOk (value_of value.now vars.now.table) }
+    ensures shown { IfOk result (λ task. IsShown (seen_task task)) }
 {
-    match value.value(alloc, vars) {
+    match worth(alloc, value, vars)? {
         Ok(value) => return Ok(Task::Show { value }),
-        Err(error) => return refused(error),
+        Err(fault) => return Ok(Task::Refuse(Refusal::NoValue(fault))),
     }
 }
 
@@ -113,9 +145,10 @@ fn image_of<'e>(
     front: Front,
     code: &[u8],
 ) -> Result<Task<'e>, NoMemory>
-    ensures task { IfOk result (λ task. seen task
-        ≡ imaged name.now (build_fault front.entry front.budget code.now) (pack front.entry front.budget front.job code.now)) }
-    ensures want { IsErr result → build_fault front.entry front.budget code.now ≡ None }
+    ensures task { IfOk result (λ task. seen_task task
+        ≡ image_or_fault name.now (build_fault front.entry front.budget code.now)
+        (pack front.entry front.budget front.job code.now)) }
+    ensures memory { IsErr result → build_fault front.entry front.budget code.now ≡ None }
 {
     match build(alloc, code, front.entry, front.budget, front.job) {
         Ok(image) => return Ok(Task::BindImage { name, image }),
@@ -131,30 +164,33 @@ fn image_task<'e>(
     code: &Expr,
     vars: &Vars,
 ) -> Result<Task<'e>, NoMemory>
-    ensures task { IfOk result (λ task. seen task ≡ evaluated code.now vars.now.table (λ bytes.
-        imaged name.now (build_fault front.entry front.budget bytes) (pack front.entry front.budget front.job bytes))) }
-    ensures want { IsErr result → IsOk (value_of code.now vars.now.table) }
+    ensures task { IfOk result (λ task. seen_task task
+        ≡ value_task code.now vars.now.table (λ bytes.
+        image_or_fault name.now (build_fault front.entry front.budget bytes)
+        (pack front.entry front.budget front.job bytes))) }
+    ensures memory { IsErr result → IsOk (value_of code.now vars.now.table) }
 {
-    match code.value(alloc, vars) {
+    match worth(alloc, code, vars)? {
         Ok(code) => return image_of(alloc, name, front, code.as_slice()),
-        Err(error) => return refused(error),
+        Err(fault) => return Ok(Task::Refuse(Refusal::NoValue(fault))),
     }
 }
 
 fn poke_task(alloc: Global, at: u32, bytes: &Expr, vars: &Vars) -> Result<Task<'static>, NoMemory>
-    ensures task { IfOk result (λ task. seen task ≡ evaluated bytes.now vars.now.table (λ value. Poke at value)) }
-    ensures want { IsErr result → IsOk (value_of bytes.now vars.now.table) }
+    ensures task { IfOk result
+        (λ task. seen_task task ≡ value_task bytes.now vars.now.table (λ value. Poke at value)) }
+    ensures memory { IsErr result → IsOk (value_of bytes.now vars.now.table) }
 {
-    match bytes.value(alloc, vars) {
+    match worth(alloc, bytes, vars)? {
         Ok(bytes) => return Ok(Task::Poke { at, bytes }),
-        Err(error) => return refused(error),
+        Err(fault) => return Ok(Task::Refuse(Refusal::NoValue(fault))),
     }
 }
 
 fn peek_task(alloc: Global, at: u32, count: u32) -> Result<Task<'static>, NoMemory>
-    ensures task { IfOk result (λ task. seen task ≡ peeked at count) }
-    ensures shown { IfOk result (λ task. IsShown (seen task)) }
-    ensures want { IsErr result → count ≤ longest_value }
+    ensures task { IfOk result (λ task. seen_task task ≡ peek_or_long at count) }
+    ensures shown { IfOk result (λ task. IsShown (seen_task task)) }
+    ensures memory { IsErr result → count ≤ LONGEST_VALUE }
 {
     let count = count as usize;
     if count > LONGEST_VALUE {
@@ -167,27 +203,135 @@ fn peek_task(alloc: Global, at: u32, count: u32) -> Result<Task<'static>, NoMemo
 }
 
 fn dma_task(alloc: Global, at: u32, bytes: &Expr, vars: &Vars) -> Result<Task<'static>, NoMemory>
-    ensures task { IfOk result (λ task. seen task ≡ evaluated bytes.now vars.now.table (λ value. Dma at value)) }
-    ensures want { IsErr result → IsOk (value_of bytes.now vars.now.table) }
+    ensures task { IfOk result
+        (λ task. seen_task task ≡ value_task bytes.now vars.now.table (λ value. Dma at value)) }
+    ensures memory { IsErr result → IsOk (value_of bytes.now vars.now.table) }
 {
-    match bytes.value(alloc, vars) {
+    match worth(alloc, bytes, vars)? {
         Ok(bytes) => return Ok(Task::Dma { at, bytes }),
-        Err(error) => return refused(error),
+        Err(fault) => return Ok(Task::Refuse(Refusal::NoValue(fault))),
     }
 }
 
-/// What an event comes to: its expressions have their values, with these variables. It takes the memory that
-/// these want.
+fn arm_task(
+    alloc: Global,
+    turn: u32,
+    at: u32,
+    bytes: &Expr,
+    vars: &Vars,
+) -> Result<Task<'static>, NoMemory>
+    ensures task { IfOk result
+        (λ task. seen_task task ≡ value_task bytes.now vars.now.table (λ value. Arm turn at value)) }
+    ensures memory { IsErr result → IsOk (value_of bytes.now vars.now.table) }
+{
+    match worth(alloc, bytes, vars)? {
+        Ok(bytes) => return Ok(Task::Arm { turn, at, bytes }),
+        Err(fault) => return Ok(Task::Refuse(Refusal::NoValue(fault))),
+    }
+}
+
+// Room for the outputs of a session.
+fn room_for_outputs(alloc: Global) -> Result<Bytes, NoMemory>
+    ensures { IfOk result IsRoom }
+{
+    let mut outputs = Bytes::new(alloc);
+    outputs.reserve(LONGEST_OUTPUTS)?;
+    Ok(outputs)
+}
+
+// The name that a session binds, with room for its outputs.
+fn bound_name<'e>(alloc: Global, name: &'e [u8]) -> Result<Bound<'e>, NoMemory>
+    ensures { IfOk result (λ bound. (bound.name.now ≡ name.now) × IsRoom bound.value) }
+{
+    let value = room_for_outputs(alloc)?;
+    Ok(Bound { name, value })
+}
+
+fn bound_of<'e>(alloc: Global, var: &'e Option<Bytes>) -> Result<Option<Bound<'e>>, NoMemory>
+    ensures name { IfOk result (λ bound. option_map (λ b. b.name.now) bound
+        ≡ option_map (λ name. name.bytes) var.now) }
+    ensures room { IfOk result (λ bound. IfSome bound (λ b. IsRoom b.value)) }
+{
+    match var {
+        None => return Ok(None),
+        Some(name) => match bound_name(alloc, name.as_slice()) {
+            Ok(bound) => return Ok(Some(bound)),
+            Err(NoMemory) => return Err(NoMemory),
+        },
+    }
+}
+
+// A session of these values, where the nonce has 20 bytes.
+fn session_of<'e>(
+    alloc: Global,
+    image: Bytes,
+    inputs: Bytes,
+    nonce: &[u8],
+    var: &'e Option<Bytes>,
+) -> Result<Task<'e>, NoMemory>
+    ensures task { IfOk result (λ task. seen_task task
+        ≡ session_or_nonce image.bytes inputs.bytes nonce.now (option_map (λ name. name.bytes) var.now)) }
+    ensures room { IfOk result HasRoom }
+{
+    let Some(nonce) = nonce.as_array() else {
+        return Ok(Task::Refuse(Refusal::NoNonce));
+    };
+    let outputs = room_for_outputs(alloc)?;
+    let bound = bound_of(alloc, var)?;
+    Ok(Task::RunSession(SessionTask {
+        image,
+        inputs,
+        nonce: *nonce,
+        outputs,
+        bound,
+    }))
+}
+
+// The values of a session's expressions, from the left.
+fn session_task<'e>(
+    alloc: Global,
+    image: &Expr,
+    inputs: &Expr,
+    nonce: &Expr,
+    var: &'e Option<Bytes>,
+    vars: &Vars,
+) -> Result<Task<'e>, NoMemory>
+    ensures task { IfOk result (λ task. seen_task task
+        ≡ value_task image.now vars.now.table (λ image.
+        value_task inputs.now vars.now.table (λ inputs.
+        value_task nonce.now vars.now.table (λ nonce.
+        session_or_nonce image inputs nonce (option_map (λ name. name.bytes) var.now))))) }
+    ensures room { IfOk result HasRoom }
+    ensures memory { IsErr result → IsOk (value_of image.now vars.now.table) }
+{
+    let image = match worth(alloc, image, vars)? {
+        Ok(image) => image,
+        Err(fault) => return Ok(Task::Refuse(Refusal::NoValue(fault))),
+    };
+    let inputs = match worth(alloc, inputs, vars)? {
+        Ok(inputs) => inputs,
+        Err(fault) => return Ok(Task::Refuse(Refusal::NoValue(fault))),
+    };
+    match worth(alloc, nonce, vars)? {
+        Ok(nonce) => return session_of(alloc, image, inputs, nonce.as_slice(), var),
+        Err(fault) => return Ok(Task::Refuse(Refusal::NoValue(fault))),
+    }
+}
+
+/// What an event comes to: its expressions have their values, with these variables. It allocates
+/// for these.
 pub(crate) fn task_of<'e>(
     alloc: Global,
     event: &'e Event,
     vars: &Vars,
 ) -> Result<Task<'e>, NoMemory>
     requires { HasShortName (request_of event.now) }
-    ensures task { IfOk result (λ task. seen task ≡ task_of (request_of event.now) vars.now.table) }
-    ensures named { IfOk result (λ task. IsNamed (seen task)) }
-    ensures shown { IfOk result (λ task. IsShown (seen task)) }
-    ensures want { IsErr result → TakesMemory (task_of (request_of event.now) vars.now.table) }
+    ensures task { IfOk result (λ task. seen_task task
+        ≡ task_of (request_of event.now) vars.now.table) }
+    ensures named { IfOk result (λ task. IsNamed (seen_task task)) }
+    ensures shown { IfOk result (λ task. IsShown (seen_task task)) }
+    ensures room { IfOk result HasRoom }
+    ensures memory { IsErr result → MayAllocateFor (request_of event.now) vars.now.table }
 {
     match event {
         Event::Blank => return Ok(Task::Rest),
@@ -214,33 +358,47 @@ pub(crate) fn task_of<'e>(
         Event::Poke { at, bytes } => return poke_task(alloc, *at, bytes, vars),
         Event::Peek { at, len } => return peek_task(alloc, *at, *len),
         Event::Dma { at, bytes } => return dma_task(alloc, *at, bytes, vars),
+        Event::SetReg { reg, n } => return Ok(Task::SetRegister { reg: *reg, n: *n }),
+        Event::Regs => return Ok(Task::ShowRegisters),
+        Event::Arm { turn, at, bytes } => return arm_task(alloc, *turn, *at, bytes, vars),
+        Event::Session {
+            image,
+            inputs,
+            nonce,
+            var,
+        } => return session_task(alloc, image, inputs, nonce, var, vars),
     }
 }
 
 impl Task<'_> {
     /// The room that the line of its answer needs.
     pub(crate) fn room(&self) -> usize
-        requires { IsShown (seen self.now) }
-        ensures { result ≡ room (seen self.now) }
+        requires { IsShown (seen_task self.now) }
+        ensures { result ≡ room (seen_task self.now) }
     {
         match self {
             Task::Rest => 0,
             Task::Show { value } => LINE_ROOM + 2 * value.as_slice().len(),
             Task::Peek { at: _, bytes } => LINE_ROOM + 2 * bytes.len(),
+            Task::RunSession(_) => SESSION_ROOM,
             _ => REGISTER_ROOM,
         }
     }
 
     /// Whether it binds a name.
     pub(crate) fn binds(&self) -> bool
-        ensures { result ≡ binds (seen self.now) }
+        ensures { result ≡ binds (seen_task self.now) }
     {
-        matches!(self, Task::Bind { .. } | Task::BindImage { .. })
+        match self {
+            Task::Bind { .. } | Task::BindImage { .. } => true,
+            Task::RunSession(session) => session.bound.is_some(),
+            _ => false,
+        }
     }
 
     /// Whether it takes a span.
     pub(crate) fn takes(&self) -> bool
-        ensures { result ≡ takes (seen self.now) }
+        ensures { result ≡ takes (seen_task self.now) }
     {
         matches!(self, Task::Take { .. })
     }

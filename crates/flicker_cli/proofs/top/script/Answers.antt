@@ -1,13 +1,19 @@
-use Rattle.std.proofs.Common.{refl, sym}
-use Rattle.flicker_cli.proofs.CallLemmas.{same_experiment, script_ran}
+use Rattle.std.proofs.Common.{ap, ◌∙◌}
+use Rattle.machine_memory.specs.HostMemory.{is_untaken}
+use Rattle.flk_run.specs.Parts.{Experiment, platform}
+use Rattle.flk_base.specs.Streams.{intake, output}
+use Rattle.flicker_cli.proofs.CallLemmas.{names_given_up}
 use Rattle.flicker_cli.proofs.top.script.Goals as goal
 
 pub returns-clause-ran : goal.returns-clause-ran
 returns-clause-ran g c =
-    let made = c.new.ensures in
-    let left = c.finish-board.ensures in
+    let source = intake g.S.Source c.args.source.now c.run_script-runner.new.source in
+    let out = output g.K.Sink c.args.out.now c.run_script-runner.new.out in
     let new = c.run_script-runner.result.0 in
-    script_ran c.run_script-runner.result.1 c.of_script.result _ _ c.new.result new _ _ c.finish-board.result.2 c.of_script.ensures
-    (same_experiment c.new.result _ _ _ _ made.board made.disk made.variables made.spans)
-    (same_experiment new _ _ new.variables _ (sym left.board) (sym left.disk) refl (sym left.spans))
-    c.run_script-runner.ensures.ran
+    record {
+      how = c.run_script-runner.result.1;
+      is = c.of_script.ensures;
+      reached = platform new;
+      ran = rw c.new.ensures at c.run_script-runner.ensures.ran;
+      left = rw (c.finish-board.ensures.board, c.finish-board.ensures.disk, c.finish-board.ensures.spans) (names_given_up (is_untaken c.args.board.memory) new (c.run_script-runner.ensures.untaken ∙ ap (λ (e : Experiment). e.untaken) c.new.ensures));
+    }

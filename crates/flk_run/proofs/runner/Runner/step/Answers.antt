@@ -1,23 +1,30 @@
-use Rattle.std.proofs.Common.{sym, subst, ◌∙◌}
-use Rattle.flk_run.specs.Parts.{Experiment, IsAt}
+use Rattle.std.proofs.Common.{◌++◌, ap, ◌∙◌}
+use Rattle.script_text.specs.Seen.{request_of}
+use Rattle.flk_run.specs.Answers.{line_of}
+use Rattle.flk_run.specs.Parts.{platform_with}
+use Rattle.flk_run.specs.Seen.{seen_task, seen_answer}
+use Rattle.flk_run.proofs.HostLemmas.{known_steps, known_line}
 use Rattle.flk_run.proofs.runner.Runner.step.Goals as goal
 
-pub returns-clause-written : goal.returns-clause-written
-returns-clause-written c done p s =
-    let e = rw done at (c.do_event-end.ensures.stepped c.self.inside.disk) in
-    (e p (subst (λ (x : Experiment). IsAt p x) (sym c.self.view_is) s)).written
+pub returns-in-Ok-done-clause-stepped : goal.returns-in-Ok-done-clause-stepped
+returns-in-Ok-done-clause-stepped c done =
+    let host = c.runner.inside.host in
+    let at_once = rw
+    (c.prepared.ensures.host, c.prepared.ensures.table, c.in-Ok-done.is) at c.perform-host.ensures.done in
+    rw (c.perform-host.ensures.untaken, c.prepared.ensures.host, ← c.runner.view_is)
+    (known_steps host.untaken (request_of c.args.event.now) (seen_task c.in-Ok.task)
+    (platform_with host.armed host.board host.spans c.runner.inside.disk c.runner.inside.vars.table) _ _ c.in-Ok.ensures.task (λ known. at_once known c.runner.inside.disk))
 
-pub returns-clause-leaves : goal.returns-clause-leaves
-returns-clause-leaves c done p s =
-    let e = rw done at (c.do_event-end.ensures.stepped c.self.inside.disk) in
-    (e p (subst (λ (x : Experiment). IsAt p x) (sym c.self.view_is) s)).at
-
-pub returns-clause-kept : goal.returns-clause-kept
-returns-clause-kept c want =
-    let e = rw want at (c.do_event-end.ensures.stepped c.self.inside.disk) in
-    e.0 ∙ c.self.view_is
-
-pub returns-clause-unwritten : goal.returns-clause-unwritten
-returns-clause-unwritten c want =
-    let e = rw want at (c.do_event-end.ensures.stepped c.self.inside.disk) in
-    e.1
+pub returns-in-Ok-done-clause-written : goal.returns-in-Ok-done-clause-written
+returns-in-Ok-done-clause-written c done =
+    let host = c.runner.inside.host in
+    let at_once = rw
+    (c.prepared.ensures.host, c.prepared.ensures.table, c.in-Ok-done.is) at c.perform-host.ensures.done in
+    let line = c.put_answer.ensures ∙ ap
+    (λ bytes. bytes ++ line_of c.args.number
+    (seen_answer c.in-Ok-done.done)) c.prepared.ensures.unwritten in
+    rw (← c.runner.view_is) (known_line host.untaken c.args.number (request_of c.args.event.now)
+    (seen_task c.in-Ok.task)
+    (platform_with host.armed host.board host.spans c.runner.inside.disk c.runner.inside.vars.table) _ _
+    c.args.answer.now.bytes _ c.in-Ok.ensures.task
+    (λ known. at_once known c.runner.inside.disk) line)

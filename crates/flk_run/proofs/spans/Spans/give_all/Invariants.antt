@@ -1,5 +1,5 @@
 use Rattle.std.proofs.Common.{◌≡◌}
-use Rattle.flk_run.specs.Parts.{HoldsSpans}
+use Rattle.flk_run.specs.Parts.{HoldsSpans, KeepsDevice}
 use Rattle.flk_run.specs.Taking.{after_give_all}
 use Rattle.flk_run.proofs.spans.Spans.give_all.Given as goal
 
@@ -7,8 +7,9 @@ use Rattle.flk_run.proofs.spans.Spans.give_all.Given as goal
 abbrev pub invariant-loop-ticket : goal.invariant-loop-ticket
 invariant-loop-ticket l = record {
   held : HoldsSpans l.board.memory.marks l.tickets.items;
-  given : after_give_all l.board.memory l.tickets.items ≡ after_give_all l.initial.board.memory l.initial.tickets.items;
-  registers : l.board.registers ≡ l.initial.board.registers;
+  given : after_give_all l.board.memory l.tickets.items
+      ≡ after_give_all l.initial.board.memory l.initial.tickets.items;
+  device : KeepsDevice l.initial.board l.board;
 }
 
 abbrev pub decreases-loop-ticket : goal.decreases-loop-ticket

@@ -1,0 +1,45 @@
+use Rattle.flk_run.proofs.events.done.Goals as goal
+
+pub returns-in-Extend-clause-done : goal.returns-in-Extend-clause-done
+returns-in-Extend-clause-done c =
+    rw (c.in-Extend.is, ← c.as_slice.ensures)
+    (λ untaken disk. c.extend.ensures.steps untaken disk c.args.vars.now.table)
+
+pub returns-in-Read-clause-done : goal.returns-in-Read-clause-done
+returns-in-Read-clause-done c =
+    rw c.in-Read.is (λ untaken disk. c.read.ensures.steps untaken disk c.args.vars.now.table)
+
+pub returns-in-Take-clause-done : goal.returns-in-Take-clause-done
+returns-in-Take-clause-done c =
+    rw c.in-Take.is (λ untaken disk. c.take.ensures.steps untaken disk c.args.vars.now.table)
+
+pub returns-in-Give-clause-done : goal.returns-in-Give-clause-done
+returns-in-Give-clause-done c =
+    rw c.in-Give.is (λ untaken disk. c.give.ensures.steps untaken disk c.args.vars.now.table)
+
+pub returns-in-Poke-clause-done : goal.returns-in-Poke-clause-done
+returns-in-Poke-clause-done c =
+    rw (c.in-Poke.is, ← c.as_slice-in-Poke.ensures)
+    (λ untaken disk. c.poke.ensures.steps untaken disk c.args.vars.now.table)
+
+pub returns-in-Peek-clause-done : goal.returns-in-Peek-clause-done
+returns-in-Peek-clause-done c =
+    rw c.in-Peek.is (λ untaken disk. c.peek.ensures.steps untaken disk c.args.vars.now.table)
+
+pub returns-in-Dma-clause-done : goal.returns-in-Dma-clause-done
+returns-in-Dma-clause-done c =
+    rw (c.in-Dma.is, ← c.as_slice-in-Dma.ensures)
+    (λ untaken disk. c.dma.ensures.steps untaken disk c.args.vars.now.table)
+
+pub returns-in-SetRegister-clause-done : goal.returns-in-SetRegister-clause-done
+returns-in-SetRegister-clause-done c =
+    rw c.in-SetRegister.is
+    (λ untaken disk. c.set_register.ensures.steps untaken disk c.args.vars.now.table)
+
+pub returns-in-ShowRegisters-clause-done : goal.returns-in-ShowRegisters-clause-done
+returns-in-ShowRegisters-clause-done c =
+    rw c.in-ShowRegisters.is
+    (λ untaken disk. c.show_registers.ensures.steps untaken disk c.args.vars.now.table)
+
+pub returns-in-RunSession-clause-done : goal.returns-in-RunSession-clause-done
+returns-in-RunSession-clause-done c = rw c.in-RunSession.is c.run_session.ensures.done

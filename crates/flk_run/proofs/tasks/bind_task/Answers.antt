@@ -1,5 +1,0 @@
-use Rattle.flk_run.proofs.PlatformLemmas.{has_value}
-use Rattle.flk_run.proofs.tasks.bind_task.Goals as goal
-
-pub returns-in-Err-clause-want : goal.returns-in-Err-clause-want
-returns-in-Err-clause-want c want = has_value c.in-Err.error c.args.value.now c.args.vars.now.table (c.refused.ensures.want want) c.in-Err.ensures.exact

@@ -1,0 +1,365 @@
+// What the host does with a board: events without expressions.
+ghost use Rattle.std.specs.Prelude.{◌≡◌, ◌+◌, ◌*◌, ◌≤◌, length, slice_set, take, true, None, OnOk, OnErr, IfOk};
+ghost use Rattle.flk_run.specs.Answers.{room_of};
+ghost use Rattle.flk_run.specs.Seen.{Steps, seen_answer, HasShortOutputs, IsRoom};
+ghost use Rattle.flk_run.specs.Sessions.{answer_to_end, armed_after};
+ghost use Rattle.slb_core.specs.Reports.{count_of};
+ghost use Rattle.flk_run.specs.Tasks.{Extend, Read, Take, Give, Poke, Peek, Dma as WriteByDevice, SetRegister, ShowRegisters, Arm, RunSession};
+
+use crate::answers::{
+    Answer, LINE_ROOM, LONGEST_OUTPUTS, REGISTER_ROOM, Refusal, SESSION_ROOM, SessionOver,
+};
+use crate::board::{dev_write, give, host_read, host_write, take};
+use crate::spans::{Spans, keep, room_for_ticket, ticket_at};
+use flk_base::{Bytes, NoMemory};
+use i386_profile::Cpu;
+use late_launch::{Board, End};
+use machine_memory::{DevEnd, Dma, Memory, frame_law};
+use region_pool::Ticket;
+use seal_device::RegisterFault;
+use session_driver::{SessionEnd, session};
+use std::alloc::Global;
+use std::marker::Model;
+use std::snapshot::Snapshot;
+
+/// A board, and the tickets of the spans that the host took of its memory. Where memory held no
+/// span when the host came, these are all that it holds. It must be spent, by `part`.
+pub(crate) struct Host {
+    board: Board,
+    tickets: Vec<Ticket>,
+    // The device writes that are armed for the next session.
+    armed: Dma,
+    // Memory as it was when the host came.
+    found: Snapshot<Memory>,
+}
+
+impl Model for Host {
+    ghost use Rattle.std.specs.Prelude.{◌-◌, vec_len, vec_capacity};
+    ghost use Rattle.machine_memory.specs.HostMemory.{is_untaken};
+    ghost use Rattle.flk_run.specs.Parts.{HostParts, IsHost};
+
+    ghost Value = { HostParts };
+
+    ghost view = { λ h. record {
+      board = h.board;
+      spans = h.tickets.items;
+      untaken = is_untaken h.found.value;
+      armed = h.armed;
+      spare = vec_capacity h.tickets - vec_len h.tickets;
+    } };
+
+    ghost invariant = { λ h. IsHost (is_untaken h.found.value) h.board.memory h.tickets.items };
+}
+
+impl Host {
+    ghost use Rattle.std.specs.Prelude.{[]};
+    ghost use Rattle.machine_memory.specs.HostMemory.{is_untaken};
+    ghost use Rattle.flk_run.specs.declared.answers.Answer.TheVariants as answer;
+    ghost use Rattle.flk_run.specs.declared.answers.Refusal.TheVariants as refusal;
+    ghost use Rattle.flk_run.specs.Parts.{HoldsSpans, board_after_power_on};
+
+    /// The host of a board, who has taken nothing yet.
+    pub(crate) fn new(alloc: Global, board: Board) -> Host
+        ensures board { result.board ≡ board }
+        ensures spans { result.spans ≡ [] }
+        ensures untaken { result.untaken ≡ is_untaken board.memory }
+        ensures armed { result.armed ≡ [] }
+    {
+        frame_law(&board.memory);
+        let found = Snapshot::of(&board.memory);
+        Host {
+            board,
+            tickets: Vec::new(alloc),
+            armed: Dma::new(alloc),
+            found,
+        }
+    }
+
+    /// The board, and the spans that the host holds of its memory.
+    pub(crate) fn part(self) -> (Board, Spans)
+        ensures board { result.0 ≡ self.board }
+        ensures spans { result.1 ≡ self.spans }
+        ensures held { HoldsSpans result.0.memory.marks result.1 }
+    {
+        let Host {
+            board,
+            tickets,
+            armed: _,
+            found: _,
+        } = self;
+        (board, Spans { tickets })
+    }
+
+    /// Makes room for one more ticket.
+    pub(crate) fn room(&mut self) -> Result<(), NoMemory>
+        ensures same { self.new ≡ record self.old { spare = self.new.spare } }
+        ensures room { OnOk result (1 ≤ self.new.spare) }
+    {
+        room_for_ticket(&mut self.tickets)
+    }
+
+    // The power was lost, and comes back at once: no write stays armed.
+    fn power_lost(self) -> (Host, Answer)
+        ensures left { result.0
+            ≡ record self { board = board_after_power_on self.board; armed = [] } }
+        ensures answer { result.1 ≡ answer.Refused refusal.PowerLost }
+    {
+        let Host {
+            board,
+            tickets,
+            mut armed,
+            found,
+        } = self;
+        armed.clear();
+        let host = Host {
+            board: board.fall().power_on(),
+            tickets,
+            armed,
+            found,
+        };
+        (host, Answer::Refused(Refusal::PowerLost))
+    }
+
+    /// Extends register `r` by the text `host` and these bytes.
+    pub(crate) fn extend(self, r: u32, text: &[u8]) -> (Host, Answer)
+        ensures untaken { result.0.untaken ≡ self.untaken }
+        ensures steps { self.untaken ≡ true → Steps (Extend r text.now) self result.0 result.1 }
+        ensures fits { room_of (seen_answer result.1) ≤ REGISTER_ROOM }
+    {
+        let mut host = self;
+        match host.board.extend(r, b"host", text) {
+            Ok(()) => return (host, Answer::Done),
+            Err(RegisterFault::NoRegister) => return (host, Answer::Refused(Refusal::NoRegister)),
+            Err(RegisterFault::PowerLost) => return host.power_lost(),
+        }
+    }
+
+    /// Shows register `r`.
+    pub(crate) fn read(self, r: u32) -> (Host, Answer)
+        ensures untaken { result.0.untaken ≡ self.untaken }
+        ensures steps { self.untaken ≡ true → Steps (Read r) self result.0 result.1 }
+        ensures fits { room_of (seen_answer result.1) ≤ REGISTER_ROOM }
+    {
+        let mut host = self;
+        match host.board.read_register(r) {
+            Ok(value) => return (host, Answer::Register(value)),
+            Err(RegisterFault::NoRegister) => return (host, Answer::Refused(Refusal::NoRegister)),
+            Err(RegisterFault::PowerLost) => return host.power_lost(),
+        }
+    }
+
+    /// Takes a span of so many frames, for whose ticket there is room.
+    pub(crate) fn take(self, frames: u32) -> (Host, Answer)
+        requires { 1 ≤ self.spare }
+        ensures untaken { result.0.untaken ≡ self.untaken }
+        ensures steps { self.untaken ≡ true → Steps (Take frames) self result.0 result.1 }
+        ensures fits { room_of (seen_answer result.1) ≤ REGISTER_ROOM }
+    {
+        if frames == 0 {
+            return (self, Answer::Refused(Refusal::NoRoom));
+        }
+        let mut host = self;
+        match take(&mut host.board, frames) {
+            Ok(ticket) => {
+                let address = 4096 * ticket.first() as usize;
+                keep(&mut host.tickets, ticket);
+                return (host, Answer::Counts(address));
+            }
+            Err(_) => return (host, Answer::Refused(Refusal::NoRoom)),
+        }
+    }
+
+    /// Gives back the span that starts at an address.
+    pub(crate) fn give(self, at: u32) -> (Host, Answer)
+        ensures untaken { result.0.untaken ≡ self.untaken }
+        ensures steps { self.untaken ≡ true → Steps (Give at) self result.0 result.1 }
+        ensures fits { room_of (seen_answer result.1) ≤ REGISTER_ROOM }
+    {
+        let mut host = self;
+        match ticket_at(&host.tickets, at) {
+            Some(index) => {
+                let ticket = host.tickets.remove(index);
+                give(&mut host.board, ticket);
+                return (host, Answer::Done);
+            }
+            None => return (host, Answer::Refused(Refusal::NoSpan)),
+        }
+    }
+
+    /// Writes bytes of one span.
+    pub(crate) fn poke(self, at: u32, bytes: &[u8]) -> (Host, Answer)
+        ensures untaken { result.0.untaken ≡ self.untaken }
+        ensures steps { self.untaken ≡ true → Steps (Poke at bytes.now) self result.0 result.1 }
+        ensures fits { room_of (seen_answer result.1) ≤ REGISTER_ROOM }
+    {
+        let mut host = self;
+        match host_write(&mut host.board, at, bytes) {
+            Ok(()) => return (host, Answer::Done),
+            Err(_) => return (host, Answer::Refused(Refusal::NoTaken)),
+        }
+    }
+
+    /// Shows as many bytes of one span as `bytes` has room for.
+    pub(crate) fn peek(self, at: u32, bytes: Vec<u8>) -> (Host, Answer)
+        ensures untaken { result.0.untaken ≡ self.untaken }
+        ensures steps { self.untaken ≡ true
+            → Steps (Peek at (length bytes.items)) self result.0 result.1 }
+        ensures fits { room_of (seen_answer result.1) ≤ LINE_ROOM + 2 * length bytes.items }
+        ensures short { HasShortOutputs (seen_answer result.1) }
+    {
+        let mut bytes = bytes;
+        match host_read(&self.board, at, &mut bytes) {
+            Ok(()) => return (self, Answer::Peeked(bytes)),
+            Err(_) => return (self, Answer::Refused(Refusal::NoTaken)),
+        }
+    }
+
+    /// Has a device write bytes.
+    pub(crate) fn dma(self, at: u32, bytes: &[u8]) -> (Host, Answer)
+        ensures untaken { result.0.untaken ≡ self.untaken }
+        ensures steps { self.untaken ≡ true → Steps (WriteByDevice at bytes.now) self result.0 result.1 }
+        ensures fits { room_of (seen_answer result.1) ≤ REGISTER_ROOM }
+    {
+        let mut host = self;
+        match dev_write(&mut host.board, at, bytes) {
+            DevEnd::Done => return (host, Answer::Done),
+            DevEnd::Blocked => return (host, Answer::Refused(Refusal::NoBlocked)),
+        }
+    }
+
+    /// Sets a register of the processor.
+    pub(crate) fn set_register(self, reg: u8, n: u32) -> (Host, Answer)
+        ensures untaken { result.0.untaken ≡ self.untaken }
+        ensures steps { self.untaken ≡ true → Steps (SetRegister reg n) self result.0 result.1 }
+        ensures fits { room_of (seen_answer result.1) ≤ REGISTER_ROOM }
+    {
+        let mut host = self;
+        put_register(&mut host.board.registers, reg, n);
+        (host, Answer::Done)
+    }
+
+    /// Shows the registers of the processor.
+    pub(crate) fn show_registers(self) -> (Host, Answer)
+        ensures untaken { result.0.untaken ≡ self.untaken }
+        ensures steps { self.untaken ≡ true → Steps ShowRegisters self result.0 result.1 }
+        ensures fits { room_of (seen_answer result.1) ≤ REGISTER_ROOM }
+    {
+        let registers = self.board.registers;
+        (self, Answer::Registers(registers.regs))
+    }
+
+    /// Arms a device write for a turn of the next session. Where memory runs out, nothing is done.
+    pub(crate) fn arm(self, turn: u32, at: u32, bytes: &[u8]) -> (Host, Result<Answer, NoMemory>)
+        ensures untaken { result.0.untaken ≡ self.untaken }
+        ensures steps { IfOk result.1
+            (λ answer. Steps (Arm turn at bytes.now) self result.0 answer) }
+        ensures fits { IfOk result.1 (λ answer. room_of (seen_answer answer) ≤ REGISTER_ROOM) }
+        ensures kept { OnErr result.1 (result.0 ≡ self) }
+    {
+        let mut host = self;
+        match host.armed.arm(turn, at, bytes) {
+            Ok(()) => return (host, Ok(Answer::Done)),
+            Err(_) => return (host, Err(NoMemory)),
+        }
+    }
+
+    /// Runs a session, for whose outputs there is room.
+    pub(crate) fn session(
+        self,
+        image: &[u8],
+        inputs: &[u8],
+        nonce: &[u8; 20],
+        outputs: Bytes,
+    ) -> (Host, Answer)
+        requires { IsRoom outputs }
+        ensures untaken { result.0.untaken ≡ self.untaken }
+        ensures steps { self.untaken ≡ true
+            → Steps (RunSession image.now inputs.now nonce.now None) self result.0 result.1 }
+        ensures fits { room_of (seen_answer result.1) ≤ SESSION_ROOM }
+        ensures short { HasShortOutputs (seen_answer result.1) }
+    {
+        let Host {
+            board,
+            tickets,
+            mut armed,
+            found,
+        } = self;
+        let mut out = [0; LONGEST_OUTPUTS];
+        match session(board, image, inputs, nonce, &mut armed, &mut out) {
+            Ok((board, end)) => {
+                let answer = session_answer(end, &mut armed, &out, outputs);
+                let host = Host {
+                    board,
+                    tickets,
+                    armed,
+                    found,
+                };
+                return (host, answer);
+            }
+            Err(dark) => {
+                armed.clear();
+                let host = Host {
+                    board: dark.power_on(),
+                    tickets,
+                    armed,
+                    found,
+                };
+                return (host, Answer::Refused(Refusal::PowerLost));
+            }
+        }
+    }
+}
+
+// Puts a value into a register of the processor, if there is one of this number.
+fn put_register(registers: &mut Cpu, reg: u8, n: u32)
+    ensures { registers.new ≡ record registers.old { regs = slice_set registers.old.regs reg n } }
+{
+    let index = reg as usize;
+    if index < registers.regs.len() {
+        registers.regs[index] = n;
+    }
+}
+
+// What a session is answered: where it ended, no write stays armed.
+fn session_answer(
+    end: SessionEnd,
+    armed: &mut Dma,
+    out: &[u8; LONGEST_OUTPUTS],
+    outputs: Bytes,
+) -> Answer
+    requires { IsRoom outputs }
+    ensures answer { seen_answer result ≡ answer_to_end end armed.old out.now }
+    ensures armed { armed.new ≡ armed_after end armed.old }
+    ensures short { HasShortOutputs (seen_answer result) }
+{
+    match end {
+        SessionEnd::NoPlace => return Answer::Refused(Refusal::NoPlace),
+        SessionEnd::BadImage(fault) => return Answer::Refused(Refusal::NoImage(fault)),
+        SessionEnd::LongInput => return Answer::Refused(Refusal::NoInput),
+        SessionEnd::Ended { end, turns } => {
+            let mut outputs = outputs;
+            outputs.put(outputs_of(end, out));
+            let over = SessionOver {
+                end,
+                turns,
+                writes_done: armed.done(),
+                writes_blocked: armed.blocked(),
+                writes_left: armed.left(),
+                outputs,
+            };
+            armed.clear();
+            return Answer::Ended(over);
+        }
+    }
+}
+
+// The outputs of an end.
+fn outputs_of(end: End, out: &[u8; LONGEST_OUTPUTS]) -> &[u8]
+    ensures value { result.now ≡ take (count_of end) out.now }
+    ensures short { length result.now ≤ LONGEST_OUTPUTS }
+{
+    match end {
+        End::Done(count) => return &out[..(count as usize).min(LONGEST_OUTPUTS)],
+        _ => return &out[..0],
+    }
+}
