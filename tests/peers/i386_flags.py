@@ -1,5 +1,5 @@
 #!/usr/bin/env python3
-"""Prints the rows of crates/i386_profile/src/tests/vectors.rt, as this x86-64 processor answers them.
+"""Prints the rows of crates/asm_tests/src/vectors.rt, as this x86-64 processor answers them.
 
 Each group of the first two tables is an instruction, and rows of registers and flags before it and what the processor
 leaves. A flag that the i386 manuals leave undefined is printed as it was before the instruction, which is what the

@@ -1,5 +1,5 @@
 #!/usr/bin/env python3
-"""Prints the rows of crates/i386_profile/src/tests/spellings.rt, as GNU as spells the statements (binutils).
+"""Prints the rows of crates/asm_tests/src/spellings.rt, as GNU as spells the statements (binutils).
 
 The first list has the spelling that the profile writes, the second the others that it reads. Where GNU as writes another
 spelling by itself, the statement asks for the one that is meant ({load}, {disp32}, a .byte for an immediate).

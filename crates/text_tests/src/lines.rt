@@ -1,0 +1,285 @@
+// Lines and what they ask for: each fault once, and two faults in one line, of which the first is
+// reported.
+use expr_text::{Expr, ExprError, ExprFault, Vars};
+use script_text::{Event, LineError, LineFault, read_line};
+use std::alloc::Global;
+use std::test::Fail;
+
+// An event: its command, its numbers, the name that it binds, and its expression.
+#[derive(Drop)]
+struct Asked<'e> {
+    command: &'static str,
+    numbers: [u32; 3],
+    name: &'e [u8],
+    value: Option<&'e Expr>,
+}
+
+fn of_numbers(command: &'static str, first: u32, second: u32) -> Asked<'static> {
+    Asked {
+        command,
+        numbers: [first, second, 0],
+        name: b"",
+        value: None,
+    }
+}
+
+fn of_value<'e>(command: &'static str, first: u32, value: &'e Expr) -> Asked<'e> {
+    Asked {
+        command,
+        numbers: [first, 0, 0],
+        name: b"",
+        value: Some(value),
+    }
+}
+
+fn of_event(event: &Event) -> Asked<'_> {
+    match event {
+        Event::Blank => of_numbers("", 0, 0),
+        Event::Extend { r, text } => of_value("extend", *r, text),
+        Event::Read { r } => of_numbers("read", *r, 0),
+        Event::Let { var, value } => Asked {
+            command: "let",
+            numbers: [0, 0, 0],
+            name: var.as_slice(),
+            value: Some(value),
+        },
+        Event::Show { value } => of_value("show", 0, value),
+        Event::Image {
+            var,
+            job,
+            entry,
+            budget,
+            code,
+        } => Asked {
+            command: "image",
+            numbers: [u32::from(*job), *entry, *budget],
+            name: var.as_slice(),
+            value: Some(code),
+        },
+        Event::Take { n } => of_numbers("take", *n, 0),
+        Event::Give { at } => of_numbers("give", *at, 0),
+        Event::Poke { at, bytes } => of_value("poke", *at, bytes),
+        Event::Peek { at, len } => of_numbers("peek", *at, *len),
+        Event::Dma { at, bytes } => of_value("dma", *at, bytes),
+        Event::SetReg { reg, n } => of_numbers("reg", u32::from(*reg), *n),
+        Event::Regs => of_numbers("regs", 0, 0),
+        Event::Arm { turn, at, bytes } => Asked {
+            command: "arm",
+            numbers: [*turn, *at, 0],
+            name: b"",
+            value: Some(bytes),
+        },
+        Event::Session { image, var, .. } => Asked {
+            command: "session",
+            numbers: [0, 0, 0],
+            name: match var {
+                Some(name) => name.as_slice(),
+                None => b"",
+            },
+            value: Some(image),
+        },
+    }
+}
+
+// The expression, where there is one, is worth these bytes, with no name bound.
+fn is_worth(alloc: Global, value: Option<&Expr>, wanted: &[u8]) -> bool {
+    let Some(value) = value else {
+        return wanted.is_empty();
+    };
+    match value.value(alloc, &Vars::new(alloc)) {
+        Ok(bytes) => bytes.as_slice() == wanted,
+        Err(_) => false,
+    }
+}
+
+type Row = (
+    &'static str,
+    &'static str,
+    [u32; 3],
+    &'static str,
+    &'static [u8],
+);
+
+fn is_row(alloc: Global, row: &Row) -> bool {
+    let Ok(event) = read_line(alloc, row.0.as_bytes()) else {
+        return false;
+    };
+    let asked = of_event(&event);
+    asked.command == row.1
+        && asked.numbers == row.2
+        && asked.name == row.3.as_bytes()
+        && is_worth(alloc, asked.value, row.4)
+}
+
+#[test]
+fn good_lines(rt: HostRuntime) {
+    let rows: [Row; 38] = [
+        ("", "", [0, 0, 0], "", &[]),
+        (" \t ", "", [0, 0, 0], "", &[]),
+        ("\r", "", [0, 0, 0], "", &[]),
+        ("# read 1 2 3", "", [0, 0, 0], "", &[]),
+        ("  #", "", [0, 0, 0], "", &[]),
+        ("read 17", "read", [17, 0, 0], "", &[]),
+        ("read 17\r", "read", [17, 0, 0], "", &[]),
+        ("\tread\t 0x11 ", "read", [17, 0, 0], "", &[]),
+        ("read 0017", "read", [17, 0, 0], "", &[]),
+        ("read 4294967295", "read", [4_294_967_295, 0, 0], "", &[]),
+        ("read 0xFFffFFff", "read", [4_294_967_295, 0, 0], "", &[]),
+        ("extend 0 x:", "extend", [0, 0, 0], "", &[]),
+        ("extend 24 x:0aFf", "extend", [24, 0, 0], "", &[10, 255]),
+        ("let rep x:0102", "let", [0, 0, 0], "rep", &[1, 2]),
+        ("show rep:0a*2~1", "show", [0, 0, 0], "", &[10, 11]),
+        ("image m job 0x20 3 x:90", "image", [1, 32, 3], "m", &[144]),
+        ("image m pal 32 3 x:", "image", [0, 32, 3], "m", &[]),
+        ("take 0", "take", [0, 0, 0], "", &[]),
+        ("take 4", "take", [4, 0, 0], "", &[]),
+        ("give 0x1000", "give", [4096, 0, 0], "", &[]),
+        (
+            "poke 4096 x:0a+rep:00*1",
+            "poke",
+            [4096, 0, 0],
+            "",
+            &[10, 0],
+        ),
+        ("poke 0 x:", "poke", [0, 0, 0], "", &[]),
+        ("peek 4096 65537", "peek", [4096, 65_537, 0], "", &[]),
+        ("peek 0 0", "peek", [0, 0, 0], "", &[]),
+        ("dma 1 x:01", "dma", [1, 0, 0], "", &[1]),
+        ("dma 0 rep:ff*3", "dma", [0, 0, 0], "", &[255, 255, 255]),
+        ("reg eax 0", "reg", [0, 0, 0], "", &[]),
+        ("reg ecx 4294967295", "reg", [1, 4_294_967_295, 0], "", &[]),
+        ("reg edx 2", "reg", [2, 2, 0], "", &[]),
+        ("reg ebx 7", "reg", [3, 7, 0], "", &[]),
+        ("reg esp 1", "reg", [4, 1, 0], "", &[]),
+        ("reg ebp 0x10", "reg", [5, 16, 0], "", &[]),
+        ("reg esi 1", "reg", [6, 1, 0], "", &[]),
+        ("\treg  edi 1\r", "reg", [7, 1, 0], "", &[]),
+        ("regs", "regs", [0, 0, 0], "", &[]),
+        ("arm 1 2 x:00", "arm", [1, 2, 0], "", &[0]),
+        ("session x:01 x:02 x:03", "session", [0, 0, 0], "", &[1]),
+        ("session x:01 x: x: out", "session", [0, 0, 0], "out", &[1]),
+    ];
+    for (i, row) in rows.iter().enumerate() {
+        assert!(rt; is_row(rt.alloc(), row), "row {i}");
+    }
+}
+
+// The line asks for a session with these inputs and this nonce.
+fn is_session(alloc: Global, line: &str, inputs: &[u8], nonce: &[u8]) -> bool {
+    match read_line(alloc, line.as_bytes()) {
+        Ok(
+            Event::Session {
+                inputs: x,
+                nonce: y,
+                ..
+            },
+        ) => is_worth(alloc, Some(&x), inputs) && is_worth(alloc, Some(&y), nonce),
+        _ => false,
+    }
+}
+
+#[test]
+fn sessions(rt: HostRuntime) {
+    let rows = ["session x:01 x:02 x:03", "session x:01 x:02 x:03 out"];
+    for (i, line) in rows.iter().enumerate() {
+        assert!(rt; is_session(rt.alloc(), line, &[2], &[3]), "row {i}");
+    }
+}
+
+// The expression of the line has this fault where no name is bound.
+fn is_worthless(alloc: Global, line: &str, fault: ExprFault) -> bool {
+    let Ok(event) = read_line(alloc, line.as_bytes()) else {
+        return false;
+    };
+    let Some(value) = of_event(&event).value else {
+        return false;
+    };
+    match value.value(alloc, &Vars::new(alloc)) {
+        Err(ExprError::Fault(found)) => found == fault,
+        _ => false,
+    }
+}
+
+#[test]
+fn unbound_names(rt: HostRuntime) {
+    let rows = [
+        "let v v+x:00",
+        "show x",
+        "poke 0 v",
+        "image m pal 32 1 m",
+        "arm 1 2 v",
+        "session m x: x: m",
+    ];
+    for (i, line) in rows.iter().enumerate() {
+        assert!(rt; is_worthless(rt.alloc(), line, ExprFault::Name), "row {i}");
+    }
+}
+
+fn is_bad(alloc: Global, line: &[u8], fault: LineFault) -> bool {
+    match read_line(alloc, line) {
+        Err(LineError::Fault(found)) => found == fault,
+        _ => false,
+    }
+}
+
+#[test]
+fn bad_lines(rt: HostRuntime) {
+    let rows: [(&str, LineFault); 44] = [
+        ("read 1\x01", LineFault::Byte),
+        ("read 1\r\r", LineFault::Byte),
+        ("# \x7f", LineFault::Byte),
+        ("reed 1\x7f", LineFault::Byte),
+        ("reed", LineFault::Command),
+        ("Read 1", LineFault::Command),
+        ("Let v x:00", LineFault::Command),
+        ("reed 1 2 3", LineFault::Command),
+        ("rea 1", LineFault::Command),
+        ("read", LineFault::Count),
+        ("read 1 2", LineFault::Count),
+        ("read a b", LineFault::Count),
+        ("extend 1", LineFault::Count),
+        ("extend 1 x: x:", LineFault::Count),
+        ("let v", LineFault::Count),
+        ("show", LineFault::Count),
+        ("image m pal 32 3", LineFault::Count),
+        ("give", LineFault::Count),
+        ("peek 4096", LineFault::Count),
+        ("read 4294967296", LineFault::Number),
+        ("read 00000000017", LineFault::Number),
+        ("read 0x", LineFault::Number),
+        ("extend -1 y:", LineFault::Number),
+        ("image m pal a 3 y:", LineFault::Number),
+        ("take x:00", LineFault::Number),
+        ("poke x:00 4096", LineFault::Number),
+        ("peek 4096 x:", LineFault::Number),
+        ("extend 1 x:0", LineFault::Expression),
+        ("dma 1 01", LineFault::Expression),
+        ("let 9 v", LineFault::Name),
+        ("image m pul 32 3 x:90", LineFault::Name),
+        ("image M pul a 3 x:90", LineFault::Name),
+        ("reg eax", LineFault::Count),
+        ("regs 1", LineFault::Count),
+        ("arm 1 2", LineFault::Count),
+        ("session a: b:", LineFault::Count),
+        ("session a: b: c: 9 9", LineFault::Count),
+        ("reg ax 1", LineFault::Name),
+        ("reg EAX 1", LineFault::Name),
+        ("reg eax1 b", LineFault::Name),
+        ("reg esp b", LineFault::Number),
+        ("arm 1 x: y:", LineFault::Number),
+        ("session x: x: 9 9", LineFault::Expression),
+        ("session x: x: x: 9", LineFault::Name),
+    ];
+    for (i, (line, fault)) in rows.iter().enumerate() {
+        assert!(rt; is_bad(rt.alloc(), line.as_bytes(), *fault), "row {i}");
+    }
+}
+
+#[test]
+fn long_lines(rt: HostRuntime) -> Result<(), Fail> {
+    let longest = vec![in rt.alloc(); b' '; 16_384]?;
+    assert!(rt; matches!(read_line(rt.alloc(), &longest), Ok(Event::Blank)));
+    let longer = vec![in rt.alloc(); 0x7f; 16_385]?;
+    assert!(rt; is_bad(rt.alloc(), &longer, LineFault::LongLine));
+    Ok(())
+}
