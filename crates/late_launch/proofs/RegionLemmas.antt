@@ -162,7 +162,7 @@ guarded_frame memory area frame inside shut low high =
     ∙ slice_get-replicate region_frames true (frame - area.first) (omega arith)
 
 -- what a device may write lies apart from a guarded region
-apart_from_region : (memory : Contents) (area : Span) (at count : ℕ) → Inside memory area → IsGuarded memory area → 1 ≤ count
+pub apart_from_region : (memory : Contents) (area : Span) (at count : ℕ) → Inside memory area → IsGuarded memory area → 1 ≤ count
     → may_write memory.excluded at count ≡ true → AreApart at count (first_byte area.first) 65536
 apart_from_region memory area at count inside shut some may =
     let start : ℕ = first_byte area.first in

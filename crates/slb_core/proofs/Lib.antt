@@ -2,3 +2,5 @@ pub mod Decoding
 pub mod Loans
 pub mod PalLemmas
 pub mod ServeLemmas
+pub mod WriteLemmas
+pub mod ResumeLemmas

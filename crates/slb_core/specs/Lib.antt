@@ -4,3 +4,4 @@ pub mod Services
 pub mod Pal
 pub mod Reports
 pub mod Sessions
+pub mod Resume

@@ -2,7 +2,11 @@
 use Rattle.std.specs.Prelude.{ℕ, zero, suc, ◌+◌, Bool, List, [], length, map, filter, fold, Some, if◌then◌else◌}
 use Rattle.flk_base.specs.Plan.{Plan, Return, ◌>>=◌}
 use Rattle.i386_profile.specs.Effects.{State}
+use Rattle.region_pool.specs.Spans.{Span}
 use Rattle.machine_memory.specs.Writes.{written}
+use Rattle.machine_memory.specs.Contents.{Contents}
+use Rattle.machine_memory.specs.Areas.{guarded}
+use Rattle.machine_memory.specs.DeviceWrites.{may_write}
 use Rattle.machine_memory.specs.ArmedWrites.{Armed, is_due}
 use Rattle.machine_memory.specs.declared.device.DevEnd.TheVariants as writes
 use Rattle.seal_device.specs.Commands.{Command, Reply}
@@ -13,6 +17,10 @@ use Rattle.slb_core.specs.Services.{TurnEnd, Next, Over, turn}
 -- which device writes are permitted, by their address and how many bytes they have
 abbrev pub Permits : Type 0
 Permits = ℕ → ℕ → Bool
+
+-- those of a session in this area: each of their bytes lies in a frame that is neither excluded nor of the region
+abbrev pub permits_at : Contents → Span → Permits
+permits_at memory area = may_write (guarded memory area).excluded
 
 -- what is outside the region: the bytes of memory, and the device writes that are armed
 pub record Outside : Type 0 where
@@ -27,12 +35,14 @@ abbrev pub after_write : Permits → List ℕ → Armed → List ℕ
 after_write permits bytes write =
     if permits write.at (length write.bytes) then written bytes write.at write.bytes else bytes
 
+-- a write that is no longer waiting: it is done where it is permitted, else blocked
+abbrev pub ended_write : Permits → Armed → Armed
+ended_write permits write =
+    record write { ended = Some (if permits write.at (length write.bytes) then writes.Done else writes.Blocked) }
+
 -- a write after a turn: one that waited for it is done, or blocked
 abbrev pub ended_in : Permits → ℕ → Armed → Armed
-ended_in permits turn write =
-    if is_due turn write
-    then record write { ended = Some (if permits write.at (length write.bytes) then writes.Done else writes.Blocked) }
-    else write
+ended_in permits turn write = if is_due turn write then ended_write permits write else write
 
 -- what is outside after the device writes that wait for a turn, in the order of arming
 abbrev pub after_writes : Permits → ℕ → Outside → Outside

@@ -9,8 +9,6 @@ use Rattle.i386_profile.specs.Effects.{State, state}
 use Rattle.slb_image.specs.Image.{Image}
 use Rattle.slb_image.specs.Fields.{image_of}
 use Rattle.machine_memory.specs.Writes.{part, written}
-use Rattle.machine_memory.specs.Areas.{guarded}
-use Rattle.machine_memory.specs.DeviceWrites.{may_write}
 use Rattle.machine_memory.specs.ArmedWrites.{Armed}
 use Rattle.seal_device.specs.Commands.{Command, Reply}
 use Rattle.seal_device.specs.Digests.{DigestDevice}
@@ -22,7 +20,7 @@ use Rattle.late_launch.specs.Ends.{closing, extend_each}
 use Rattle.late_launch.specs.States.{LaunchedParts, ClosedParts, image_in, lost}
 use Rattle.slb_core.specs.Spans.{around_with}
 use Rattle.slb_core.specs.Services.{outputs_offset, longest_outputs}
-use Rattle.slb_core.specs.Pal.{Permits, Outside, PalEnd, outside, after_writes, pal}
+use Rattle.slb_core.specs.Pal.{Permits, Outside, PalEnd, permits_at, outside, after_writes, pal}
 use Rattle.slb_core.specs.Reports.{count_of}
 
 -- what a session begins with: which device writes are permitted, the address of the input page, the registers,
@@ -77,9 +75,9 @@ serving setting count nonce writes =
 
 -- ---- of a launched session
 
--- the device writes that a session permits: each of their bytes lies in a frame that is not excluded
+-- the device writes that a session permits
 abbrev pub permits_of : LaunchedParts → Permits
-permits_of session = may_write (guarded session.around session.area).excluded
+permits_of session = permits_at session.around session.area
 
 -- what a launched session begins with
 abbrev pub setting_of : LaunchedParts → Setting

@@ -1,10 +1,12 @@
 //! The core of a session: it runs the launched code turn by turn, serves its gates, and closes the session.
 #![tactic(auto)]
 
+mod laws;
 mod pal;
 mod services;
 mod serving;
 mod spans;
 mod turn;
 
+pub use laws::{device_writes_law, resume_law};
 pub use serving::serve;
