@@ -6,15 +6,13 @@ use Rattle.slb_image.specs.Fields.{image_of}
 use Rattle.region_pool.specs.Spans.{Span, without_span}
 use Rattle.machine_memory.specs.Contents.{Contents, first_byte}
 use Rattle.machine_memory.specs.Spans.{with_bytes, after_give}
-use Rattle.machine_memory.specs.Areas.{guarded}
-use Rattle.machine_memory.specs.DeviceWrites.{may_write}
 use Rattle.machine_memory.specs.ArmedWrites.{Armed}
 use Rattle.seal_device.specs.Commands.{Command, Measure, Reply}
 use Rattle.seal_device.specs.Digests.{DigestDevice}
 use Rattle.late_launch.specs.Boards.{BoardParts, DarkParts}
 use Rattle.late_launch.specs.Regions.{region_bytes, around, input_page}
 use Rattle.late_launch.specs.States.{image_in, start_registers}
-use Rattle.slb_core.specs.Pal.{PalEnd}
+use Rattle.slb_core.specs.Pal.{PalEnd, permits_at}
 use Rattle.slb_core.specs.Sessions.{Setting, serving}
 use Rattle.session_driver.specs.declared.driver.SessionEnd.{SessionEnd}
 use Rattle.session_driver.specs.declared.driver.SessionEnd.TheVariants.{Ended}
@@ -27,7 +25,7 @@ filled memory area image inputs =
 -- what a session begins with in this area
 abbrev pub setting_at : Contents → Span → Setting
 setting_at memory area = record {
-  permits = may_write (guarded (around memory area) area).excluded;
+  permits = permits_at (around memory area) area;
   inputs_at = input_page area;
   start = start_registers (image_of (image_in (region_bytes memory area))).entry;
   region = region_bytes memory area;

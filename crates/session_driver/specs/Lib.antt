@@ -1,3 +1,4 @@
 pub mod Sessions
 pub mod Filled
 pub mod Answers
+pub mod Resume

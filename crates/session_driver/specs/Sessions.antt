@@ -7,14 +7,12 @@ use Rattle.region_pool.specs.declared.ticket.Purpose.TheVariants.{Launch}
 use Rattle.machine_memory.specs.Writes.{written}
 use Rattle.machine_memory.specs.Contents.{Contents, first_byte}
 use Rattle.machine_memory.specs.Spans.{after_take}
-use Rattle.machine_memory.specs.Areas.{guarded}
-use Rattle.machine_memory.specs.DeviceWrites.{may_write}
 use Rattle.machine_memory.specs.ArmedWrites.{Armed}
 use Rattle.seal_device.specs.Commands.{Command, Measure, Reply}
 use Rattle.late_launch.specs.Regions.{input_page}
 use Rattle.late_launch.specs.States.{start_registers}
 use Rattle.slb_core.specs.Services.{segment_size}
-use Rattle.slb_core.specs.Pal.{Permits, PalEnd}
+use Rattle.slb_core.specs.Pal.{Permits, PalEnd, permits_at}
 use Rattle.slb_core.specs.Sessions.{Setting, serving}
 
 -- how many frames an area has, and of how many its first one is a multiple
@@ -32,9 +30,9 @@ area_at first = record { first = first; frames = area_frames; purpose = Launch }
 abbrev pub region_with : List ℕ → List ℕ
 region_with image = image ++ replicate (segment_size - length image) 0
 
--- the device writes that a session in this area permits: each of their bytes lies in a frame that is taken and not of the region
+-- the device writes that a session permits, by memory before its area is taken
 abbrev pub permits_in : Contents → Span → Permits
-permits_in memory area = may_write (guarded (after_take memory area) area).excluded
+permits_in memory area = permits_at (after_take memory area) area
 
 -- what a session of an image begins with, in the area at a frame, where these writes are permitted and memory has
 -- these bytes: the inputs stand in the input page

@@ -2,7 +2,7 @@
 ghost use Rattle.std.specs.Prelude.{◌≡◌, ◌≤◌, ◌+◌, length, None, true};
 ghost use Rattle.slb_image.specs.Faults.{image_fault};
 ghost use Rattle.region_pool.specs.Places.{place};
-ghost use Rattle.machine_memory.specs.Contents.{first_byte};
+ghost use Rattle.machine_memory.specs.Contents.{IsMemory, first_byte};
 ghost use Rattle.machine_memory.specs.Writes.{part};
 ghost use Rattle.machine_memory.specs.Spans.{with_bytes};
 ghost use Rattle.machine_memory.specs.Areas.{IsArea};
@@ -13,6 +13,7 @@ ghost use Rattle.late_launch.specs.States.{has_image};
 ghost use Rattle.slb_core.specs.Sessions.{CountsOutputs};
 ghost use Rattle.session_driver.specs.Sessions.{area_frames, area_alignment};
 ghost use Rattle.session_driver.specs.Filled.{filled, plan_at, answer_at};
+ghost use Rattle.session_driver.specs.Resume.{HostFinds};
 ghost use Rattle.session_driver.specs.Answers.{placed, course, answer_of, no_outputs, ended_leaves, LeavesBeside};
 
 use late_launch::{Board, Dark, End, LaunchEnd};
@@ -50,6 +51,13 @@ fn page_at(memory: &Memory, area: &Ticket, number: u32) -> u32
 {
     frame_law(memory);
     PAGE_SIZE as u32 * (area.first() + number)
+}
+
+/// The law of frames, of a board's memory.
+fn board_law(board: &Board)
+    ensures { IsMemory board.now.memory }
+{
+    frame_law(&board.memory);
 }
 
 /// Writes bytes from the beginning of a page of the area.
@@ -159,7 +167,9 @@ fn run(
 }
 
 /// One session of an image with these inputs and this nonce. The outputs come to `out`, and zeros after them; it is
-/// all zero where the session does not end, or was not begun. A refusal leaves the board and the armed writes.
+/// all zero where the session does not end, or was not begun. A refusal leaves the board and the armed writes. After
+/// a session that ended, however it did, the host finds its registers as they were, and its memory, but for what the
+/// devices wrote that were permitted to.
 ///
 /// # Errors
 ///
@@ -176,7 +186,9 @@ pub fn session(
         (course board.memory.marks image.now inputs.now) }
     ensures beside { LeavesBeside board image.now inputs.now nonce.now dma.old
         (course board.memory.marks image.now inputs.now) dma.new out.new }
+    ensures resume { HostFinds board dma.old result dma.new }
 {
+    board_law(&board);
     *out = [0; PAGE_SIZE];
     if let Err(fault) = view(image) {
         return Ok((board, SessionEnd::BadImage(fault)));

@@ -1,0 +1,16 @@
+use Rattle.std.proofs.Common.{sym, subst, refl, arith, Result}
+use Rattle.region_pool.specs.Places.{place}
+use Rattle.region_pool.proofs.PlaceLemmas.{place-cases}
+use Rattle.late_launch.specs.Boards.{BoardParts, DarkParts}
+use Rattle.session_driver.specs.declared.driver.SessionEnd.{SessionEnd}
+use Rattle.session_driver.specs.Resume.{HostFinds}
+use Rattle.session_driver.proofs.Resuming.{finds}
+use Rattle.session_driver.proofs.driver.session.Goals as goal
+
+pub returns-clause-resume : goal.returns-clause-resume
+returns-clause-resume c =
+    let board = c.args.board in
+    let marks = board.memory.marks in
+    subst (λ (r : Result (BoardParts × SessionEnd) DarkParts). HostFinds board c.args.dma.now r c.run.new.dma) (sym c.run.ensures.answer)
+    (finds board c.args.image.now c.args.inputs.now c.args.nonce.now c.args.dma.now c.run.new.dma c.run.new.out c.board_law.ensures (omega arith)
+    (place marks 18 16) refl (place-cases marks 18 16 (omega arith)) c.run.ensures.beside)
