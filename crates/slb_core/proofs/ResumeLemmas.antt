@@ -1,6 +1,6 @@
 -- What a host finds at the resume, from what its session answered.
-use Rattle.std.proofs.Common.{◌≡◌, ℕ, ◌+◌, ◌≤◌, List, [], ◌∷◌, length, replicate, slice_get, sym, refl, ap, subst, ◌∙◌, inl, inr, arith, Bool, true, false, Option, Some, None, Result, Ok}
-use Rattle.std.specs.Prelude.{IfSome}
+use Rattle.std.proofs.Common.{◌≡◌, ℕ, ◌+◌, ◌≤◌, List, [], ◌∷◌, length, replicate, slice_get, sym, refl, ap, subst, ◌∙◌, inl, inr, arith, Bool, true, false, Option, Some, None, Result, Ok, Err}
+use Rattle.std.specs.Prelude.{IfSome, IfOk}
 use Rattle.std.proofs.lemmas.Bool.{cases_lt, cases_Bool}
 use Rattle.std.proofs.lemmas.List.{length-replicate}
 use Rattle.flk_base.specs.Stop.{Fused}
@@ -23,7 +23,7 @@ use Rattle.late_launch.proofs.RegionLemmas.{Inside, inside_memory, region_size_i
 use Rattle.slb_core.specs.Pal.{Permits, PalEnd, permits_at, after_write}
 use Rattle.slb_core.specs.Spans.{around_with}
 use Rattle.slb_core.specs.Sessions.{serving, setting_of, serve_answer, CountsOutputs}
-use Rattle.slb_core.specs.Resume.{writes_until, after_each, IsElsewhere, AtResume, served, Resumes}
+use Rattle.slb_core.specs.Resume.{writes_until, after_each, IsElsewhere, AtResume, served, Resumes, ResumesHost}
 use Rattle.slb_core.proofs.WriteLemmas.{IsApart, AreSameApart, LiesWithin, EndsSo, each_apart, over_apart, bits_within, serving_only, only_fused}
 
 -- ---- a part that no permitted write touches
@@ -237,3 +237,20 @@ resume host measured count nonce writes closed m placed is few =
     resumes_so host measured m placed writes (served session count nonce writes) closed
     (only_fused costs (act digests) (EndsSo (setting_of session).permits (setting_of session).bytes writes) (serving (setting_of session) count nonce writes) (session_device session) (serving_only (setting_of session) count nonce writes))
     is few
+
+-- a session that answered so resumes each host of which its launch was made
+module _ (count : ℕ) (nonce : List ℕ) (writes : List Armed) (answer : Result ClosedParts DarkParts) where
+  of_host : (host : SuspendedParts) (measured : Fused DigestDevice) → IsMemory host.board.memory → IsArea host.board.memory.marks host.area
+      → (given : Result ClosedParts DarkParts) → given ≡ serve_answer (launched host measured) (served (launched host measured) count nonce writes)
+      → CountsOutputs (served (launched host measured) count nonce writes)
+      → IfOk given (λ closed. Resumes host writes closed (served (launched host measured) count nonce writes))
+  of_host host measured m placed (Err dark) is few = tt
+  of_host host measured m placed (Ok closed) is few = resume host measured count nonce writes closed m placed (sym is) few
+
+  pub resumes_host : (begun : LaunchedParts) → answer ≡ serve_answer begun (served begun count nonce writes) → CountsOutputs (served begun count nonce writes)
+      → ResumesHost begun writes (served begun count nonce writes) answer
+  resumes_host begun is few = λ host measured made m placed.
+      let back = subst (λ (s : LaunchedParts). answer ≡ serve_answer s (served s count nonce writes)) made is in
+      let counted = subst (λ (s : LaunchedParts). CountsOutputs (served s count nonce writes)) made few in
+      subst (λ (s : LaunchedParts). IfOk answer (λ closed. Resumes host writes closed (served s count nonce writes))) (sym made)
+      (of_host host measured m placed answer back counted)

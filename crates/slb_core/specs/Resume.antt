@@ -1,15 +1,15 @@
 -- What devices do to memory in a session, and what the host finds when it goes on.
-use Rattle.std.specs.Prelude.{◌≡◌, ◌≢◌, ℕ, zero, suc, ◌+◌, ◌&&◌, nat_le, List, ◌++◌, map, filter, fold, slice_get, Option, Some, None, if◌then◌else◌}
+use Rattle.std.specs.Prelude.{◌≡◌, ◌≢◌, ℕ, zero, suc, ◌+◌, ◌&&◌, nat_le, List, ◌++◌, map, filter, fold, slice_get, Option, Some, None, Result, IfOk, if◌then◌else◌}
 use Rattle.flk_base.specs.Stop.{Fused}
 use Rattle.region_pool.specs.Spans.{Span, HasFrame}
 use Rattle.machine_memory.specs.Writes.{part}
-use Rattle.machine_memory.specs.Contents.{frame_of}
-use Rattle.machine_memory.specs.Areas.{region_of}
+use Rattle.machine_memory.specs.Contents.{IsMemory, frame_of}
+use Rattle.machine_memory.specs.Areas.{IsArea, region_of}
 use Rattle.machine_memory.specs.ArmedWrites.{Armed, is_waiting, is_due}
 use Rattle.seal_device.specs.Digests.{DigestDevice, on_device}
-use Rattle.late_launch.specs.Boards.{BoardParts}
+use Rattle.late_launch.specs.Boards.{BoardParts, DarkParts}
 use Rattle.late_launch.specs.Regions.{page_size, output_page, page, IsCleared}
-use Rattle.late_launch.specs.States.{SuspendedParts, LaunchedParts, ClosedParts, session_device, resumed}
+use Rattle.late_launch.specs.States.{SuspendedParts, LaunchedParts, ClosedParts, launched, session_device, resumed}
 use Rattle.slb_core.specs.Pal.{Permits, Outside, PalEnd, permits_at, after_write, ended_write}
 use Rattle.slb_core.specs.Sessions.{serving, setting_of}
 
@@ -64,3 +64,10 @@ abbrev pub Resumes : SuspendedParts → List Armed → ClosedParts → Fused Dig
 Resumes host writes closed (before, None) = Unit {0}
 Resumes host writes closed (after, Some ended) =
     AtResume host.board (resumed closed) host.area ended.outputs writes closed.turns
+
+-- what was launched resumes each host of which its launch was made, if it was closed and not lost
+abbrev pub ResumesHost : LaunchedParts → List Armed → Fused DigestDevice × Option PalEnd → Result ClosedParts DarkParts → Type 0
+ResumesHost session writes end answer =
+    (host : SuspendedParts) (measured : Fused DigestDevice) → session ≡ launched host measured
+    → IsMemory host.board.memory → IsArea host.board.memory.marks host.area
+    → IfOk answer (λ closed. Resumes host writes closed end)

@@ -8,5 +8,5 @@ mod serving;
 mod spans;
 mod turn;
 
-pub use laws::{device_writes_law, resume_law};
+pub use laws::device_writes_law;
 pub use serving::serve;

@@ -10,6 +10,7 @@ ghost use Rattle.late_launch.specs.States.{has_image, image_in, session_device};
 ghost use Rattle.slb_core.specs.Pal.{outside};
 ghost use Rattle.slb_core.specs.Sessions.{first_outside, inputs_in, first_registers, runs, permits_of, setting_of, serving, serve_answer, begun, LeavesWrites, CountsOutputs};
 ghost use Rattle.slb_core.specs.Reports.{count_of, PalEnds};
+ghost use Rattle.slb_core.specs.Resume.{served, ResumesHost};
 
 use crate::pal::{Ended, run};
 use crate::services::{OUTPUTS_OFFSET, PAGE_SIZE};
@@ -119,6 +120,7 @@ pub fn serve(
         (on_device (serving (setting_of launched) inputs nonce.now dma.old) (session_device launched)) dma.new }
     ensures outputs { CountsOutputs
         (on_device (serving (setting_of launched) inputs nonce.now dma.old) (session_device launched)) }
+    ensures resume { ResumesHost launched dma.old (served launched inputs nonce.now dma.old) result }
 {
     let mut session = launched;
     let limits = limits_in(&session);

@@ -2,6 +2,7 @@ use Rattle.std.proofs.Common.{◌∙◌, ap, Err}
 use Rattle.i386_profile.specs.declared.cpu.Cpu.{Cpu}
 use Rattle.slb_core.specs.Sessions.{first_registers}
 use Rattle.slb_core.proofs.ServeLemmas.{no_step_left, whole_lost, whole_lost_leaves, whole_done, whole_done_leaves, whole_counted}
+use Rattle.slb_core.proofs.ResumeLemmas.{resumes_host}
 use Rattle.slb_core.proofs.serving.serve.Goals as goal
 
 pub lost-requires : goal.lost-requires
@@ -47,3 +48,7 @@ returns-in-Ok-clause-outputs c =
     let start = c.first_registers-start.ensures ∙ ap (λ (x : Cpu). first_registers x c.args.inputs) c.cpu.ensures in
     whole_counted c.args.launched c.begin.new.session c.run_or_refuse.new.session c.args.inputs c.limits_in-limits.result.budget c.limits_in-limits.result.job c.first_registers-start.result c.args.nonce.now c.args.dma.now c.begin.new.dma c.run_or_refuse.new.dma c.run_or_refuse.new.outputs
     c.begin.ensures.session c.begin.ensures.writes c.limits_in-limits.ensures.job c.limits_in-limits.ensures.budget start _ c.run_or_refuse.array_long c.run_or_refuse.ensures
+
+pub returns-in-Ok-clause-resume : goal.returns-in-Ok-clause-resume
+returns-in-Ok-clause-resume c =
+    resumes_host c.args.inputs c.args.nonce.now c.args.dma.now _ c.args.launched (returns-in-Ok-clause-answer c) (returns-in-Ok-clause-outputs c)
