@@ -2,3 +2,4 @@ pub mod Running
 pub mod Pieces
 pub mod Filling
 pub mod Resuming
+pub mod Permitted

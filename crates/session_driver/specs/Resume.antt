@@ -1,8 +1,9 @@
 -- What a host finds after a session.
-use Rattle.std.specs.Prelude.{◌≡◌, ℕ, List, map, replicate, slice_get, Some, Result, Ok, Err}
+use Rattle.std.specs.Prelude.{◌≡◌, ◌⊎◌, ℕ, ◌+◌, ◌<◌, ◌≤◌, List, map, replicate, slice_get, Some, Result, Ok, Err}
+use Rattle.region_pool.specs.Marks.{IsTaken}
 use Rattle.region_pool.specs.Spans.{HasFrame}
 use Rattle.region_pool.specs.Places.{place}
-use Rattle.machine_memory.specs.Contents.{first_byte, frame_of}
+use Rattle.machine_memory.specs.Contents.{Contents, first_byte, frame_of}
 use Rattle.machine_memory.specs.Spans.{bytes_of}
 use Rattle.machine_memory.specs.ArmedWrites.{Armed}
 use Rattle.late_launch.specs.Boards.{BoardParts, DarkParts}
@@ -10,6 +11,11 @@ use Rattle.slb_core.specs.Resume.{writes_until, after_each, ended_until}
 use Rattle.session_driver.specs.Sessions.{area_frames, area_alignment, area_at, permits_in}
 use Rattle.session_driver.specs.declared.driver.SessionEnd.{SessionEnd}
 use Rattle.session_driver.specs.declared.driver.SessionEnd.TheVariants.{Ended}
+
+-- a frame that is open to devices in a session whose area begins at the first one, where memory shuts them out of its
+-- free frames alone: it is taken, or it is the input or the output page of the area
+abbrev pub IsOpenIn : Contents → ℕ → ℕ → Type 0
+IsOpenIn memory first frame = IsTaken memory.marks frame ⊎ ((first + 16 ≤ frame) × (frame < first + area_frames))
 
 -- what a host finds on its board after a session of so many turns, and in the armed writes: the area was the lowest
 -- free one, and is free and zero again; else memory is what the permitted device writes made of it

@@ -2,5 +2,7 @@
 #![tactic(auto)]
 
 mod driver;
+mod laws;
 
 pub use driver::{SessionEnd, session};
+pub use laws::permitted_writes_law;
