@@ -1,5 +1,5 @@
 -- Which device writes a session permits, by the frames that are taken.
-use Rattle.std.proofs.Common.{◌≡◌, ◌⊎◌, ℕ, ◌+◌, ◌-◌, ◌<◌, ◌≤◌, List, length, replicate, get_or, slice_get, sym, refl, ap, ◌∙◌, inl, inr, arith, Bool, true, false, Some}
+use Rattle.std.proofs.Common.{◌≡◌, ℕ, ◌+◌, ◌-◌, ◌<◌, ◌≤◌, List, length, replicate, get_or, slice_get, sym, ap, ◌∙◌, inl, inr, arith, Bool, true, false, Some}
 use Rattle.std.proofs.lemmas.Bool.{cases_lt, cases_Bool}
 use Rattle.std.proofs.lemmas.List.{length-replicate}
 use Rattle.std.proofs.lemmas.Option.{slice_get-get_or, slice_get_within}
