@@ -135,7 +135,6 @@ fn signed_byte(bytes: &[u8]) -> Option<(u32, &[u8])>
 
 /// A base and the displacement that mod announces.
 #[tactic(auto, unfolding(crate::specs::Reading::displaced_at))]
-#[inline(always)]
 fn displaced(mode: u8, base: Reg, bytes: &[u8]) -> Option<(Rm, &[u8])>
     ensures { option_map (λ x. (x.0, x.1.now)) result ≡ displaced_at mode base bytes.now }
 {
@@ -315,7 +314,6 @@ fn mov(opcode: u8, bytes: &[u8]) -> Option<(Ins, &[u8])>
 
 /// C1
 #[tactic(auto, unfolding(crate::specs::Reading::shift_at))]
-#[inline(always)]
 fn shift(bytes: &[u8]) -> Option<(Ins, &[u8])>
     ensures { option_map (λ x. (x.0, x.1.now)) result ≡ shift_at bytes.now }
 {
@@ -327,7 +325,6 @@ fn shift(bytes: &[u8]) -> Option<(Ins, &[u8])>
 
 /// C7
 #[tactic(auto, unfolding(crate::specs::Reading::put_at))]
-#[inline(always)]
 fn put(bytes: &[u8]) -> Option<(Ins, &[u8])>
     ensures { option_map (λ x. (x.0, x.1.now)) result ≡ put_at bytes.now }
 {
@@ -365,7 +362,6 @@ fn short_jmp(bytes: &[u8]) -> Option<(Ins, &[u8])>
 
 /// F7
 #[tactic(auto, unfolding(crate::specs::Reading::unary_at))]
-#[inline(always)]
 fn unary(bytes: &[u8]) -> Option<(Ins, &[u8])>
     ensures { option_map (λ x. (x.0, x.1.now)) result ≡ unary_at bytes.now }
 {
@@ -376,7 +372,6 @@ fn unary(bytes: &[u8]) -> Option<(Ins, &[u8])>
 
 /// AF after 0F.
 #[tactic(auto, unfolding(crate::specs::Reading::imul_at))]
-#[inline(always)]
 fn imul(bytes: &[u8]) -> Option<(Ins, &[u8])>
     ensures { option_map (λ x. (x.0, x.1.now)) result ≡ imul_at bytes.now }
 {
@@ -393,7 +388,6 @@ fn low_byte(r: Reg) -> Option<ByteReg>
 
 /// B6 after 0F.
 #[tactic(auto, unfolding(crate::specs::Reading::widen_at))]
-#[inline(always)]
 fn widen(bytes: &[u8]) -> Option<(Ins, &[u8])>
     ensures { option_map (λ x. (x.0, x.1.now)) result ≡ widen_at bytes.now }
 {
