@@ -13,6 +13,7 @@ use crate::reading::instruction;
 pub struct Undecoded;
 
 /// The instruction that the bytes begin with, and how many of them spell it.
+#[inline(always)]
 fn first(bytes: &[u8]) -> Result<(Ins, usize), Undecoded>
     ensures found { IfOk result (λ r. Begins r.0 r.1 bytes.now) }
     ensures only { (ins : InsView) (n : ℕ) → Begins ins n bytes.now → result ≡ Ok (ins, n) }
@@ -28,6 +29,7 @@ fn first(bytes: &[u8]) -> Result<(Ins, usize), Undecoded>
 
 /// The instruction that some prefix of the bytes from `at` on spells, and that prefix's length.
 /// `Undecoded` comes exactly where no prefix spells one.
+#[inline(always)]
 pub fn decode(bytes: &[u8], at: usize) -> Result<(Ins, usize), Undecoded>
     requires { at < length bytes.now }
     // What is answered is spelled there.

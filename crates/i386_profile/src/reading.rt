@@ -98,6 +98,7 @@ fn cond(code: u8) -> Option<Cond>
     }
 }
 
+#[inline(always)]
 fn byte(bytes: &[u8]) -> Option<(u8, &[u8])>
     ensures { option_map (λ x. (x.0, x.1.now)) result ≡ byte_at bytes.now }
 {
@@ -107,6 +108,7 @@ fn byte(bytes: &[u8]) -> Option<(u8, &[u8])>
     }
 }
 
+#[inline(always)]
 fn doubleword(bytes: &[u8]) -> Option<(u32, &[u8])>
     ensures { option_map (λ x. (x.0, x.1.now)) result ≡ doubleword_at bytes.now }
 {
@@ -118,6 +120,7 @@ fn doubleword(bytes: &[u8]) -> Option<(u32, &[u8])>
     Some((number, rest))
 }
 
+#[inline(always)]
 fn signed_byte(bytes: &[u8]) -> Option<(u32, &[u8])>
     ensures { option_map (λ x. (x.0, x.1.now)) result ≡ signed_byte_at bytes.now }
 {
@@ -151,6 +154,7 @@ fn displaced(mode: u8, base: Reg, bytes: &[u8]) -> Option<(Rm, &[u8])>
 
 /// The operand of the fields mod and rm.
 #[tactic(auto, unfolding(crate::specs::Reading::rm_at))]
+#[inline(always)]
 fn rm(mode: u8, code: u8, bytes: &[u8]) -> Option<(Rm, &[u8])>
     ensures { option_map (λ x. (x.0, x.1.now)) result ≡ rm_at mode code bytes.now }
 {
@@ -192,6 +196,7 @@ fn operands(bytes: &[u8]) -> Option<(ModRm, &[u8])>
 
 /// 01 to 3B: an operation and its direction.
 #[tactic(auto, unfolding(crate::specs::Reading::alu_at))]
+#[inline(always)]
 fn alu(opcode: u8, bytes: &[u8]) -> Option<(Ins, &[u8])>
     ensures { option_map (λ x. (x.0, x.1.now)) result ≡ alu_at opcode bytes.now }
 {
@@ -209,6 +214,7 @@ fn alu(opcode: u8, bytes: &[u8]) -> Option<(Ins, &[u8])>
 
 /// 40 to 5F: a register in the opcode.
 #[tactic(auto, unfolding(crate::specs::Reading::register_at))]
+#[inline(always)]
 fn register(opcode: u8, bytes: &[u8]) -> Option<(Ins, &[u8])>
     ensures { option_map (λ x. (x.0, x.1.now)) result ≡ register_at opcode bytes.now }
 {
@@ -224,6 +230,7 @@ fn register(opcode: u8, bytes: &[u8]) -> Option<(Ins, &[u8])>
 
 /// 68, B8 to BF, E8, E9: a doubleword after the opcode.
 #[tactic(auto, unfolding(crate::specs::Reading::immediate_at))]
+#[inline(always)]
 fn immediate(opcode: u8, bytes: &[u8]) -> Option<(Ins, &[u8])>
     ensures { option_map (λ x. (x.0, x.1.now)) result ≡ immediate_at opcode bytes.now }
 {
@@ -240,6 +247,7 @@ fn immediate(opcode: u8, bytes: &[u8]) -> Option<(Ins, &[u8])>
 
 /// 70 to 7F: a condition in the opcode.
 #[tactic(auto, unfolding(crate::specs::Reading::short_jcc_at))]
+#[inline(always)]
 fn short_jcc(opcode: u8, bytes: &[u8]) -> Option<(Ins, &[u8])>
     ensures { option_map (λ x. (x.0, x.1.now)) result ≡ short_jcc_at opcode bytes.now }
 {
@@ -250,6 +258,7 @@ fn short_jcc(opcode: u8, bytes: &[u8]) -> Option<(Ins, &[u8])>
 
 /// 80 to 8F after 0F: the same with a distance of four bytes.
 #[tactic(auto, unfolding(crate::specs::Reading::jcc_at))]
+#[inline(always)]
 fn jcc(opcode: u8, bytes: &[u8]) -> Option<(Ins, &[u8])>
     ensures { option_map (λ x. (x.0, x.1.now)) result ≡ jcc_at opcode bytes.now }
 {
@@ -260,6 +269,7 @@ fn jcc(opcode: u8, bytes: &[u8]) -> Option<(Ins, &[u8])>
 
 /// 81 and 83: operands, and an immediate of four bytes or one.
 #[tactic(auto, unfolding(crate::specs::Reading::alu_imm_at))]
+#[inline(always)]
 fn alu_imm(opcode: u8, bytes: &[u8]) -> Option<(Ins, &[u8])>
     ensures { option_map (λ x. (x.0, x.1.now)) result ≡ alu_imm_at opcode bytes.now }
 {
@@ -274,6 +284,7 @@ fn alu_imm(opcode: u8, bytes: &[u8]) -> Option<(Ins, &[u8])>
 }
 
 /// The instruction of 85, 88 to 8B, 8D with these operands.
+#[inline(always)]
 fn mov_ins(opcode: u8, code: u8, rm: Rm) -> Option<Ins>
     ensures { result ≡ mov_ins opcode code rm }
 {
@@ -292,6 +303,7 @@ fn mov_ins(opcode: u8, code: u8, rm: Rm) -> Option<Ins>
 
 /// 84 to 8F.
 #[tactic(auto, unfolding(crate::specs::Reading::mov_at))]
+#[inline(always)]
 fn mov(opcode: u8, bytes: &[u8]) -> Option<(Ins, &[u8])>
     ensures { option_map (λ x. (x.0, x.1.now)) result ≡ mov_at opcode bytes.now }
 {
@@ -330,6 +342,7 @@ fn put(bytes: &[u8]) -> Option<(Ins, &[u8])>
 
 /// CD
 #[tactic(auto, unfolding(crate::specs::Reading::gate_at))]
+#[inline(always)]
 fn gate(bytes: &[u8]) -> Option<(Ins, &[u8])>
     ensures { option_map (λ x. (x.0, x.1.now)) result ≡ gate_at bytes.now }
 {
@@ -339,6 +352,7 @@ fn gate(bytes: &[u8]) -> Option<(Ins, &[u8])>
 
 /// EB
 #[tactic(auto, unfolding(crate::specs::Reading::short_jmp_at))]
+#[inline(always)]
 fn short_jmp(bytes: &[u8]) -> Option<(Ins, &[u8])>
     ensures { option_map (λ x. (x.0, x.1.now)) result ≡ short_jmp_at bytes.now }
 {
@@ -388,6 +402,7 @@ fn widen(bytes: &[u8]) -> Option<(Ins, &[u8])>
 
 /// What follows the escape 0F.
 #[tactic(auto, unfolding(crate::specs::Reading::two_byte_at))]
+#[inline(always)]
 fn two_byte(bytes: &[u8]) -> Option<(Ins, &[u8])>
     ensures { option_map (λ x. (x.0, x.1.now)) result ≡ two_byte_at bytes.now }
 {
@@ -402,6 +417,7 @@ fn two_byte(bytes: &[u8]) -> Option<(Ins, &[u8])>
 
 /// 00 to 7F
 #[tactic(auto, unfolding(crate::specs::Reading::low_at))]
+#[inline(always)]
 fn low(opcode: u8, bytes: &[u8]) -> Option<(Ins, &[u8])>
     ensures { option_map (λ x. (x.0, x.1.now)) result ≡ low_at opcode bytes.now }
 {
@@ -417,6 +433,7 @@ fn low(opcode: u8, bytes: &[u8]) -> Option<(Ins, &[u8])>
 
 /// 80 to BF
 #[tactic(auto, unfolding(crate::specs::Reading::middle_at))]
+#[inline(always)]
 fn middle(opcode: u8, bytes: &[u8]) -> Option<(Ins, &[u8])>
     ensures { option_map (λ x. (x.0, x.1.now)) result ≡ middle_at opcode bytes.now }
 {
@@ -431,6 +448,7 @@ fn middle(opcode: u8, bytes: &[u8]) -> Option<(Ins, &[u8])>
 
 /// C0 to FF
 #[tactic(auto, unfolding(crate::specs::Reading::high_at))]
+#[inline(always)]
 fn high(opcode: u8, bytes: &[u8]) -> Option<(Ins, &[u8])>
     ensures { option_map (λ x. (x.0, x.1.now)) result ≡ high_at opcode bytes.now }
 {
@@ -448,6 +466,7 @@ fn high(opcode: u8, bytes: &[u8]) -> Option<(Ins, &[u8])>
 
 /// The instruction at the beginning.
 #[tactic(auto, unfolding(crate::specs::Reading::instruction_at))]
+#[inline(always)]
 pub(crate) fn instruction(bytes: &[u8]) -> Option<(Ins, &[u8])>
     ensures { option_map (λ x. (x.0, x.1.now)) result ≡ instruction_at bytes.now }
 {
