@@ -3,8 +3,9 @@
 
     tests/peers/native.py [PALS [SEED [WORDS..]]]
 
-makes PALS PALs (4,000) from SEED (1), and runs flicker by WORDS, which are ./flicker if there are none. Its last lines
-are the numbers of PALs by their ends, and of differences; the status is 1 where there is one.
+makes PALS PALs (4,000; at most 50,000, two lines of a script each) from SEED (1), and runs flicker by WORDS, which are
+./flicker if there are none. Its last lines are the numbers of PALs by their ends, and of differences; the status is 1
+where there is one.
 
 The processor runs the very bytes of the image: in a 32-bit program, code and data segments of the region's 65,536 bytes
 (modify_ldt) make addresses offsets in the region and bar all others, the trap flag counts the turns, and a filter of

@@ -7,6 +7,9 @@ use std::alloc::Global;
 // A line of a script and its answer, or nothing where it has no line of the transcript.
 pub(crate) type Row = (&'static str, &'static str);
 
+// In place of an answer that is too long to be written here: the rows after it show what it came to.
+pub(crate) const LONG: &str = "..";
+
 pub(crate) fn runner(alloc: Global) -> Option<Runner> {
     let Ok(board) = Board::blank(alloc) else {
         return None;
@@ -25,8 +28,11 @@ pub(crate) fn spend(runner: Runner) {
     disk.scrap();
 }
 
-// This is the transcript of event 7 with this answer.
+// This is the line of event 7 with this answer.
 fn is_answer(written: &[u8], wanted: &str) -> bool {
+    if wanted == LONG {
+        return true;
+    }
     if wanted.is_empty() {
         return written.is_empty();
     }

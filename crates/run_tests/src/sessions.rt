@@ -1,6 +1,6 @@
 // What sessions answer, and what register 17 shows after them. Its values are by python3's hashlib: each text of the
 // chain extends it, from 20 bytes 00 on.
-use crate::machine::{Row, first_wrong};
+use crate::machine::{LONG, Row, first_wrong};
 
 // xor ebx, ebx; xor eax, eax; int 0x80.
 const IMAGES: &[Row] = &[
@@ -110,7 +110,12 @@ const ENDS: &[Row] = &[
     ("image m pal 32 2 x:31db31c0cd80", "ok 38"),
     ("session m x: n", "ok budget turns 2 dma 0 0 0 x:"),
     ("read 17", "ok x:3d6463cee3e3b473d6f148797668620e58332665"),
-    // The outputs have at most 4,096 bytes: mov ebx, 4097, then mov ebx, 2^32 - 1.
+    // The outputs have at most 4,096 bytes: mov ebx, 4096, then 4097, then 2^32 - 1; int 0x80.
+    ("image o pal 32 9 x:bb00100000cd80", "ok 39"),
+    ("session o x: n v", LONG),
+    ("show v[4095..4096]", "ok x:00"),
+    ("show v[4096..4097]", "no range"),
+    ("read 17", "ok x:2617b1c31dc4b5b590ff02a3711adbf5c34b6fe7"),
     ("image o pal 32 9 x:bb01100000cd80", "ok 39"),
     ("session o x: n", "ok fault 2 turns 2 dma 0 0 0 x:"),
     ("image o pal 32 9 x:bbffffffffcd80", "ok 39"),
