@@ -1,9 +1,17 @@
-//! Tests of events and of runs of whole scripts: worked rows, by public calls.
+//! Tests of events, of sessions and of runs of whole scripts: worked rows, by public calls.
 #![tactic(auto)]
 
 #[cfg(test)]
+mod devices;
+#[cfg(test)]
 mod events;
+#[cfg(test)]
+mod hosts;
 #[cfg(test)]
 mod machine;
 #[cfg(test)]
+mod regions;
+#[cfg(test)]
 mod runs;
+#[cfg(test)]
+mod sessions;

@@ -52,7 +52,9 @@ fn runs(rt: HostRuntime) {
     let transcript = "1 ok\n3 no register\n";
     let two = "extend 0 x:\nextend 1 x:\n";
     let three = "extend 0 x:\nextend 1 x:\nextend 2 x:\n";
-    let rows: [(Input, RunEnd<ScriptFault>, &str); 6] = [
+    let session = "image m pal 32 3 x:31db31c0cd80\nsession m x: rep:00*20 o\nshow o\n";
+    let answers = "1 ok 38\n2 ok done turns 3 dma 0 0 0 x:\n3 ok x:\n";
+    let rows: [(Input, RunEnd<ScriptFault>, &str); 8] = [
         (input_of(script, 1, NEVER, NEVER), unknown, transcript),
         (input_of(script, 7, NEVER, NEVER), unknown, transcript),
         (input_of(script, 65_536, NEVER, NEVER), unknown, transcript),
@@ -67,6 +69,13 @@ fn runs(rt: HostRuntime) {
             input_of(three, 99, NEVER, 1),
             RunEnd::Cut(PutFault::Failed),
             "1 ok\n",
+        ),
+        (input_of(session, 5, NEVER, NEVER), RunEnd::Done, answers),
+        // The session's put fails: it was done, and the line after it is not begun.
+        (
+            input_of(session, 99, NEVER, 1),
+            RunEnd::Cut(PutFault::Failed),
+            "1 ok 38\n",
         ),
         (
             input_of("extend 0 x:", 99, NEVER, NEVER),
