@@ -13,7 +13,7 @@ ghost use Rattle.seal_device.specs.Ledger.{Ledger, no_ledger, hashed_by, noted, 
 ghost use Rattle.seal_device.specs.Lists.{ListDevice, lists};
 ghost use Rattle.seal_device.specs.Agreement.{strings, Knows, digested, reply_digested};
 ghost use Rattle.seal_device.specs.Agreement.{fused_digested, end_digested, Noted, Agrees};
-ghost use Rattle.seal_device.specs.Agreement.{FusedAgree, FairPlan, ComparesNothing};
+ghost use Rattle.seal_device.specs.Agreement.{FusedAgree, FairPlan, UnforgedPlan, ComparesNothing};
 
 /// By digests a command that compares nothing does what it does by lists, seen by digests, and
 /// replies the same; so does a plan of such commands, wherever its fuse stops it. A device that was
@@ -63,16 +63,18 @@ pub fn fair_plans_agree<X>()
         ComparesNothing plan → FairPlan plan v }
 {}
 
-/// A plan is fair as far as its fuse lets it run, if what was hashed is clean where it ends. So
-/// from devices that were never used it does by digests what it does by lists, if all that was
-/// hashed by digests is clean.
+/// A plan is fair as far as its fuse lets it run, if what was hashed is clean where it ends and no
+/// blob was forged that it showed. So from devices that were never used it does by digests what it
+/// does by lists, if all that was hashed by digests is clean, and no blob was forged.
 pub fn clean_runs_agree<X>()
     ensures fair { (plan : Plan Command Reply X) (before : Fused (DigestDevice × Ledger)) →
         Clean (fused costs (noted digests) plan before).0.state.1.hashed →
+        UnforgedPlan (limited costs plan before.fuse) before.state →
         FairPlan (limited costs plan before.fuse) before.state }
     ensures agrees { (plan : Plan Command Reply X) (fuse : Limit) →
         Clean (fused costs (noted digests) plan
         (with_fuse (blank digests, no_ledger) fuse)).0.state.1.hashed →
+        UnforgedPlan (limited costs plan fuse) (blank digests, no_ledger) →
         on_device plan (with_fuse (blank digests) fuse)
         ≡ end_digested (fused costs (act lists) plan (with_fuse (blank lists) fuse)) }
 {}
@@ -93,25 +95,25 @@ pub fn clean_values_are_apart()
 /// those of a device that was never used. A launch leaves register 17 the launch's start, extended
 /// by the image; an extend leaves register r extended by the text; and both leave every other
 /// register as it was. There are always 24.
-pub fn commands_by_registers<H>()
-    ensures blank { (R : Rules H) (r : ℕ) → r < register_count →
+pub fn commands_by_registers<H, M>()
+    ensures blank { (R : Rules H M) (r : ℕ) → r < register_count →
         slice_get (blank R).chains r ≡ Some (R.start (power_start r)) }
-    ensures power_on { (R : Rules H) (d : Device H) →
+    ensures power_on { (R : Rules H M) (d : Device H M) →
         (act R Command.PowerOn d).0.chains ≡ (blank R).chains }
-    ensures measure { (R : Rules H) (image : List ℕ) (d : Device H) →
+    ensures measure { (R : Rules H M) (image : List ℕ) (d : Device H M) →
         length d.chains ≡ register_count →
         slice_get (act R (Command.Measure image) d).0.chains launch_register
         ≡ Some (R.extended (R.start launch_start) image) }
-    ensures measure_others { (R : Rules H) (image : List ℕ) (d : Device H) (r : ℕ) →
+    ensures measure_others { (R : Rules H M) (image : List ℕ) (d : Device H M) (r : ℕ) →
         r ≢ launch_register →
         slice_get (act R (Command.Measure image) d).0.chains r ≡ slice_get d.chains r }
-    ensures extend { (R : Rules H) (r : ℕ) (text : List ℕ) (d : Device H) (chain : H) →
+    ensures extend { (R : Rules H M) (r : ℕ) (text : List ℕ) (d : Device H M) (chain : H) →
         slice_get d.chains r ≡ Some chain →
         slice_get (act R (Command.Extend r text) d).0.chains r ≡ Some (R.extended chain text) }
-    ensures extend_others { (R : Rules H) (r other : ℕ) (text : List ℕ) (d : Device H) →
+    ensures extend_others { (R : Rules H M) (r other : ℕ) (text : List ℕ) (d : Device H M) →
         other ≢ r →
         slice_get (act R (Command.Extend r text) d).0.chains other ≡ slice_get d.chains other }
-    ensures count { (R : Rules H) (c : Command) (d : Device H) →
+    ensures count { (R : Rules H M) (c : Command) (d : Device H M) →
         length d.chains ≡ register_count → length (act R c d).0.chains ≡ register_count }
 {}
 
