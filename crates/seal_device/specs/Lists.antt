@@ -1,12 +1,14 @@
 -- The platform of lists: a chain is kept as its start and all its texts, and each record that was
 -- sealed is kept. A blob is never read, and no digest is compared.
-use Rattle.std.specs.Prelude.{ℕ, Bool, true, false, ◌&&◌, List, [], ◌∷◌, ◌++◌, Option, bytes_eq}
+use Rattle.std.specs.Prelude.{◌≡◌, ℕ, Bool, true, false, ◌&&◌, List, [], ◌∷◌, ◌++◌, Option, Some, None}
+use Rattle.std.specs.Prelude.{Contains, bytes_eq}
 use Rattle.std.specs.List.{find}
 use Rattle.tpm_state.specs.Chain.{Start, Zeros, Ones, Chain, From, ◌▷◌, value}
 use Rattle.seal_device.specs.Keys.{Keys}
 use Rattle.seal_device.specs.Sealed.{Sealed, with_chain_by}
 use Rattle.seal_device.specs.Blobs.{blob}
 use Rattle.seal_device.specs.Rules.{Device, Rules}
+use Rattle.seal_device.specs.Sealing.{present_chain}
 
 -- a device that keeps all texts of each register, and all records that were sealed
 abbrev pub ListDevice : Type 0
@@ -43,3 +45,15 @@ lists = record {
   remembered = λ r made. made ++ r ∷ [];
   opened = record_of;
 }
+
+-- bytes open to what they are the blob of: a record that the device keeps, under its keys, in whose
+-- chain register 17 stands
+pub record OpensTo (d : ListDevice) (bytes content : List ℕ) : Type 0 where
+  pub keys : Keys
+  pub sealed : Sealed Chain
+  pub provisioned : d.keys ≡ Some keys
+  pub kept : Contains d.made sealed
+  pub is : blob_of keys sealed ≡ bytes
+  pub chain : sealed.chain ≡ present_chain lists d
+  pub no_counter : sealed.counter ≡ None
+  pub bytes_are : sealed.bytes ≡ content

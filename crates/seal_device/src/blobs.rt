@@ -1,13 +1,17 @@
 // Blobs: what the device gives for bytes that it seals. docs/BLOBS.md has their form.
-ghost use Rattle.std.specs.Prelude.{◌≡◌, ◌≤◌, length, bytes_eq, Some, None, IsTrue, IfOk};
+ghost use Rattle.std.specs.Prelude.{◌≡◌, ◌↔◌, ◌<◌, ◌≤◌, length, bytes_eq, Some, None, IsTrue, IfOk};
+ghost use Rattle.std.specs.Prelude.{IfNone, IsOk, OnOk};
+ghost use Rattle.std.specs.Option.{option_map};
 ghost use Rattle.flk_base.specs.Stop.{over, reported_into};
-ghost use Rattle.seal_device.specs.Blobs.{head, blob, blob_size, serial_field, length_field};
-ghost use Rattle.seal_device.specs.Blobs.{is_form, tag_ok, sealed_of, parsed, blob_counter};
-ghost use Rattle.seal_device.specs.Sealing.{present_chain, open_blob};
+ghost use Rattle.flk_hmac.specs.Mask.{masked_bytes};
+ghost use Rattle.seal_device.specs.Blobs.{head, blob, blob_size, serial_field, chain_field};
+ghost use Rattle.seal_device.specs.Blobs.{length_field, is_form, tag_ok, sealed_of, parsed, blob_counter};
+ghost use Rattle.seal_device.specs.Sealing.{present_chain, open_blob, seal, seal_refusal};
+ghost use Rattle.seal_device.specs.Sealing.{last_serial};
 ghost use Rattle.seal_device.specs.Digests.{DigestDevice, digests};
-ghost use Rattle.seal_device.specs.Faults.{unseal_fault};
+ghost use Rattle.seal_device.specs.Faults.{seal_fault, unseal_fault};
 
-use crate::faults::UnsealFault;
+use crate::faults::{SealFault, UnsealFault};
 use crate::keys::Keys;
 use byteorder::{BigEndian, ByteOrder};
 use flk_hmac::{mac, mask};
@@ -55,9 +59,19 @@ fn head_of(serial: u64, chain: &[u8; 20], bytes: &[u8]) -> [u8; HEAD_LEN]
     head[..4].copy_from_slice(MARK);
     BigEndian::write_u64(&mut head[4..], serial);
     head[12] = NO_COUNTER;
-    head[17..37].copy_from_slice(chain);
     BigEndian::write_u16(&mut head[37..], bytes.len() as u16);
+    head[17..37].copy_from_slice(chain);
     head
+}
+
+// Writes bytes into a part as long as they are, each exclusive-or its byte of the mask.
+fn mask_into(key: &[u8; 20], serial: u64, bytes: &[u8], part: &mut [u8])
+    requires room { length part.old ≡ length bytes.now }
+    requires short { length bytes.now ≤ LONGEST_SEALED }
+    ensures { part.new ≡ masked_bytes key.now serial bytes.now }
+{
+    part.copy_from_slice(bytes);
+    mask(key, serial, part);
 }
 
 // Writes the blob of a record that bears no counter into the buffer's first bytes, and gives its
@@ -80,8 +94,7 @@ pub(crate) fn write_blob(
 {
     let end = HEAD_LEN + bytes.len();
     out[..HEAD_LEN].copy_from_slice(&head_of(serial, chain, bytes));
-    out[HEAD_LEN..end].copy_from_slice(bytes);
-    mask(&keys.masking, serial, &mut out[HEAD_LEN..end]);
+    mask_into(&keys.masking, serial, bytes, &mut out[HEAD_LEN..end]);
     let tag = mac(&keys.sealing, &out[..end]);
     out[end..end + TAG_LEN].copy_from_slice(&tag);
     end + TAG_LEN
@@ -131,7 +144,9 @@ fn is_same_tag(one: &[u8; TAG_LEN], other: &[u8; TAG_LEN]) -> bool
 
 // Whether bytes have the form of a blob and the tag.
 fn is_tagged(keys: &Keys, blob: &[u8]) -> bool
-    ensures { result ≡ tag_ok keys.now blob.now }
+    ensures tag { result ≡ tag_ok keys.now blob.now }
+    ensures form { IsTrue result → IsTrue (is_form blob.now) }
+    ensures long { IsTrue result → blob_size 0 ≤ length blob.now }
 {
     if !is_formed(blob) {
         return false;
@@ -150,9 +165,17 @@ fn unmask_into(keys: &Keys, blob: &[u8], out: &mut [u8; LONGEST_SEALED]) -> usiz
     ensures room { result ≤ LONGEST_SEALED }
 {
     let length = length_in(blob);
-    out[..length].copy_from_slice(&blob[HEAD_LEN..HEAD_LEN + length]);
-    mask(&keys.masking, serial_in(blob), &mut out[..length]);
+    let masked = &blob[HEAD_LEN..HEAD_LEN + length];
+    mask_into(&keys.masking, serial_in(blob), masked, &mut out[..length]);
     length
+}
+
+// Whether a blob bears this value of register 17.
+fn is_chain(blob: &[u8], value: &[u8; 20]) -> bool
+    requires { blob_size 0 ≤ length blob.now }
+    ensures { result ≡ bytes_eq (chain_field blob.now) value.now }
+{
+    &blob[17..37] == value.as_slice()
 }
 
 // What a blob opens to in register 17's present value.
@@ -170,11 +193,50 @@ pub(crate) fn opened_into(
     if !is_tagged(keys, blob) {
         return Err(UnsealFault::NotBlob);
     }
-    if &blob[17..37] != present.as_slice() {
+    if !is_chain(blob, present) {
         return Err(UnsealFault::WrongChain);
     }
     if blob[12] != NO_COUNTER {
         return Err(UnsealFault::WrongCounter);
     }
     Ok(unmask_into(keys, blob, out))
+}
+
+// Why bytes are not sealed, if they are not.
+fn fault_of_sealing(serial: u64, bytes: &[u8], counter: Option<u8>) -> Option<SealFault>
+    ensures fault { result ≡ option_map seal_fault (seal_refusal serial bytes.now counter) }
+    ensures short { IfNone result (length bytes.now ≤ LONGEST_SEALED) }
+    ensures next { IfNone result (serial < last_serial) }
+{
+    if bytes.len() > LONGEST_SEALED {
+        Some(SealFault::TooLong)
+    } else if counter.is_some() {
+        Some(SealFault::NoCounter)
+    } else if serial == u64::MAX {
+        Some(SealFault::SerialEnd)
+    } else {
+        None
+    }
+}
+
+// What bytes are sealed to under this serial and in register 17's present value.
+pub(crate) fn sealed_into(
+    keys: &Keys,
+    serial: u64,
+    present: &[u8; 20],
+    bytes: &[u8],
+    counter: Option<u8>,
+    out: &mut [u8; BLOB_ROOM],
+) -> Result<usize, SealFault>
+    ensures sealed { (d : DigestDevice) → d.serial ≡ serial → present_chain digests d ≡ present.now →
+        (result, out.new) ≡ reported_into out.old seal_fault SealFault.PowerLost
+        (Some (seal digests bytes.now counter d keys.now).1) }
+    ensures done { IsOk result ↔ (seal_refusal serial bytes.now counter ≡ None) }
+    ensures next { OnOk result (serial < last_serial) }
+    ensures size { IfOk result (λ size. size ≤ blob_size LONGEST_SEALED) }
+{
+    match fault_of_sealing(serial, bytes, counter) {
+        Some(fault) => Err(fault),
+        None => Ok(write_blob(keys, serial, present, bytes, out)),
+    }
 }

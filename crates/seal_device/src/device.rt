@@ -8,7 +8,7 @@ ghost use Rattle.seal_device.specs.Digests.{digests, on_device};
 ghost use Rattle.seal_device.specs.Faults.{power_lost, provisioned, register_fault, seal_fault};
 ghost use Rattle.seal_device.specs.Faults.{unseal_fault};
 
-use crate::blobs::{BLOB_ROOM, LONGEST_SEALED, opened_into, write_blob};
+use crate::blobs::{BLOB_ROOM, LONGEST_SEALED, opened_into, sealed_into};
 use crate::faults::{Provisioned, RegisterFault, SealFault, UnsealFault};
 use crate::keys::Keys;
 use flk_base::{Fuse, PowerLost};
@@ -150,21 +150,14 @@ impl Device {
             return Err(SealFault::PowerLost);
         }
         let present = self.present();
-        let Some(keys) = &self.keys else {
-            return Err(SealFault::Unprovisioned);
+        let sealed = match &self.keys {
+            None => Err(SealFault::Unprovisioned),
+            Some(keys) => sealed_into(keys, self.serial, &present, bytes, counter, out),
         };
-        if bytes.len() > LONGEST_SEALED {
-            return Err(SealFault::TooLong);
+        if sealed.is_ok() {
+            self.serial += 1;
         }
-        if counter.is_some() {
-            return Err(SealFault::NoCounter);
-        }
-        if self.serial == u64::MAX {
-            return Err(SealFault::SerialEnd);
-        }
-        let size = write_blob(keys, self.serial, &present, bytes, out);
-        self.serial += 1;
-        Ok(size)
+        sealed
     }
 
     /// Unseals a blob that was sealed under this seed in register 17's present value: the bytes
