@@ -1,5 +1,6 @@
 -- The errors of the code's calls: one for each refusal of a command, and one more where the power
 -- was lost.
+use Rattle.std.specs.Prelude.{Result, Ok, Err}
 use Rattle.flk_base.specs.declared.fuse.PowerLost.{PowerLost}
 use Rattle.seal_device.specs.Refusals.Register as registers
 use Rattle.seal_device.specs.Refusals.Seed as seeds
@@ -21,9 +22,10 @@ power_lost = record {}
 abbrev pub register_fault : registers.Refusal → RegisterFault
 register_fault registers.NoRegister = register_faults.NoRegister
 
--- the error for a refused seed
-abbrev pub provisioned : seeds.Refusal → Provisioned
-provisioned seeds.Provisioned = record {}
+-- what is answered to a seed: no power is lost there
+abbrev pub provision_answer : Result (Unit {0}) seeds.Refusal → Result (Unit {0}) Provisioned
+provision_answer (Ok done) = Ok done
+provision_answer (Err seeds.Provisioned) = Err (record {})
 
 -- the error for bytes that are not sealed
 abbrev pub seal_fault : seals.Refusal → SealFault

@@ -5,7 +5,7 @@ ghost use Rattle.flk_base.specs.Stop.{Ends, or_lost, reported, reported_into, wi
 ghost use Rattle.seal_device.specs.Blobs.{blob_size};
 ghost use Rattle.seal_device.specs.Commands.{Command, act, blank};
 ghost use Rattle.seal_device.specs.Digests.{digests, on_device};
-ghost use Rattle.seal_device.specs.Faults.{power_lost, provisioned, register_fault, seal_fault};
+ghost use Rattle.seal_device.specs.Faults.{power_lost, register_fault, provision_answer, seal_fault};
 ghost use Rattle.seal_device.specs.Faults.{unseal_fault};
 
 use crate::blobs::{BLOB_ROOM, LONGEST_SEALED, opened_into, sealed_into};
@@ -118,8 +118,9 @@ impl Device {
     /// Takes a seed of any length: its keys are derived and kept, the seed is not. Where the device
     /// has one, it is refused, and nothing changes. It takes no step.
     pub fn provision(&mut self, seed: &[u8]) -> Result<(), Provisioned>
-        ensures { let end = act digests (Command.Provision seed.now) self.old in
-            Ends (reported provisioned (record {})) (end.0, Some end.1) self.new result }
+        ensures device { self.new ≡ (act digests (Command.Provision seed.now) self.old).0 }
+        ensures answer { result
+            ≡ provision_answer (act digests (Command.Provision seed.now) self.old).1 }
     {
         if self.keys.is_some() {
             return Err(Provisioned);
@@ -146,7 +147,7 @@ impl Device {
             (with_fuse self.new fuse.new.left) (result, out.new) }
         ensures size { IfOk result (λ size. size ≤ blob_size LONGEST_SEALED) }
     {
-        if let Err(PowerLost) = fuse.step() {
+        if fuse.step().is_err() {
             return Err(SealFault::PowerLost);
         }
         let present = self.present();
@@ -174,7 +175,7 @@ impl Device {
             (with_fuse self.now fuse.new.left) (result, out.new) }
         ensures size { IfOk result (λ size. size ≤ LONGEST_SEALED) }
     {
-        if let Err(PowerLost) = fuse.step() {
+        if fuse.step().is_err() {
             return Err(UnsealFault::PowerLost);
         }
         let present = self.present();
