@@ -179,7 +179,7 @@ fn is_chain(blob: &[u8], value: &[u8; 20]) -> bool
 }
 
 // What a blob opens to in register 17's present value.
-pub(crate) fn opened_into(
+pub(crate) fn open_into(
     keys: &Keys,
     present: &[u8; 20],
     blob: &[u8],
@@ -220,7 +220,7 @@ fn fault_of_sealing(serial: u64, bytes: &[u8], counter: Option<u8>) -> Option<Se
 }
 
 // What bytes are sealed to under this serial and in register 17's present value.
-pub(crate) fn sealed_into(
+pub(crate) fn seal_into(
     keys: &Keys,
     serial: u64,
     present: &[u8; 20],

@@ -8,7 +8,7 @@ ghost use Rattle.seal_device.specs.Digests.{digests, on_device};
 ghost use Rattle.seal_device.specs.Faults.{power_lost, register_fault, provision_answer, seal_fault};
 ghost use Rattle.seal_device.specs.Faults.{unseal_fault};
 
-use crate::blobs::{BLOB_ROOM, LONGEST_SEALED, opened_into, sealed_into};
+use crate::blobs::{BLOB_ROOM, LONGEST_SEALED, open_into, seal_into};
 use crate::faults::{Provisioned, RegisterFault, SealFault, UnsealFault};
 use crate::keys::Keys;
 use flk_base::{Fuse, PowerLost};
@@ -150,10 +150,10 @@ impl Device {
         if fuse.step().is_err() {
             return Err(SealFault::PowerLost);
         }
-        let present = self.present();
+        let present = self.present_value();
         let sealed = match &self.keys {
             None => Err(SealFault::Unprovisioned),
-            Some(keys) => sealed_into(keys, self.serial, &present, bytes, counter, out),
+            Some(keys) => seal_into(keys, self.serial, &present, bytes, counter, out),
         };
         if sealed.is_ok() {
             self.serial += 1;
@@ -178,15 +178,15 @@ impl Device {
         if fuse.step().is_err() {
             return Err(UnsealFault::PowerLost);
         }
-        let present = self.present();
+        let present = self.present_value();
         match &self.keys {
             None => Err(UnsealFault::Unprovisioned),
-            Some(keys) => opened_into(keys, &present, blob, out),
+            Some(keys) => open_into(keys, &present, blob, out),
         }
     }
 
     /// Register 17's value.
-    fn present(&self) -> [u8; 20]
+    fn present_value(&self) -> [u8; 20]
         ensures { result ≡ slice_index_or self.now.chains 17 [] }
     {
         let shown = self.bank.read(17);

@@ -1,6 +1,6 @@
 use Rattle.std.proofs.Common.{sym, ◌∙◌}
 use Rattle.seal_device.proofs.Reading.{wrong_chain, wrong_counter, opens, bytes_reported}
-use Rattle.seal_device.proofs.blobs.opened_into.Goals as goal
+use Rattle.seal_device.proofs.blobs.open_into.Goals as goal
 
 pub returns-then-not-is_chain-clause-opened : goal.returns-then-not-is_chain-clause-opened
 returns-then-not-is_chain-clause-opened c = λ d at.

@@ -2,7 +2,7 @@ use Rattle.std.proofs.Common.{None, sym, ◌∙◌}
 use Rattle.seal_device.proofs.BlobFields.{length-blob}
 use Rattle.seal_device.proofs.Making.{no_refusal, blob_given}
 use Rattle.seal_device.proofs.Reading.{bytes_reported}
-use Rattle.seal_device.proofs.blobs.sealed_into.Goals as goal
+use Rattle.seal_device.proofs.blobs.seal_into.Goals as goal
 
 pub returns-in-None-clause-sealed : goal.returns-in-None-clause-sealed
 returns-in-None-clause-sealed c = λ d one two.
