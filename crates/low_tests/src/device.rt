@@ -97,7 +97,7 @@ fn laws_at_types() {
     clean_runs_agree::<u32>();
     clean_values_are_apart();
     commands_and_the_fuse();
-    commands_by_registers::<[u8; 20]>();
+    commands_by_registers::<[u8; 20], ()>();
     digested_is_a_homomorphism::<u32>();
     fair_plans_agree::<u32>();
     ledger_has_what_is_known::<u32>();

@@ -3,6 +3,8 @@
 #![tactic(auto)]
 
 #[cfg(test)]
+mod blobs;
+#[cfg(test)]
 mod bytes;
 #[cfg(test)]
 mod device;

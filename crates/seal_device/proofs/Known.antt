@@ -1,18 +1,30 @@
 -- The ledger has what a device of lists knows, after each command.
-use Rattle.std.proofs.Common.{◌≡◌, ℕ, List, [], ◌++◌, Option, Some, None, refl, subst, length, ◌<◌}
-use Rattle.std.proofs.Common.{get_or, All, Contains, arith}
-use Rattle.std.specs.Prelude.{slice_get}
+use Rattle.std.proofs.Common.{◌≡◌, ℕ, zero, suc, ◌+◌, ◌<◌, ◌≤◌, List, [], ◌∷◌, ◌++◌, Bool}
+use Rattle.std.proofs.Common.{true, false, eqb, ltb, Option, Some, None, refl, sym, ap, ◌∙◌, subst}
+use Rattle.std.proofs.Common.{inl, inr, length, map, get_or, All, Contains, arith}
+use Rattle.std.specs.Prelude.{slice_get, is_some}
+use Rattle.std.proofs.lemmas.Bool.{ltb-false, eqb-false}
 use Rattle.std.proofs.lemmas.Option.{slice_get_within, get_or_from_slice_get}
-use Rattle.std.proofs.lemmas.List.Elements.{All-set, All-map, All-append, All-contains_itself}
+use Rattle.std.proofs.lemmas.List.Elements.{All-set, All-map, All-append, All-push, All-tail}
+use Rattle.std.proofs.lemmas.List.Elements.{All-weaker, All-contains, All-contains_itself}
 use Rattle.std.proofs.lemmas.List.Elements.{Contains-append_left, Contains-append_right}
-use Rattle.std.proofs.lemmas.List.{length-set, get_or-set_same}
+use Rattle.std.proofs.lemmas.List.Elements.{Contains-push_cases}
+use Rattle.std.proofs.lemmas.List.{length-set, get_or-set_same, append-nil, map-append}
 use Rattle.tpm_state.specs.Chain.{Start, Chain, From, ◌▷◌, value, start_value, power_start}
 use Rattle.tpm_state.specs.Chain.{register_numbers, register_count}
-use Rattle.seal_device.specs.Commands.{Command, Measure, Extend, ReadRegister, PowerOn, act, extend}
-use Rattle.seal_device.specs.Commands.{with_chain, launch_start, launch_register, first_chains}
+use Rattle.seal_device.specs.Keys.{Keys, keys_of}
+use Rattle.seal_device.specs.Sealed.{Sealed, InRange}
+use Rattle.seal_device.specs.Rules.{launch_start, launch_register}
+use Rattle.seal_device.specs.Sealing.{provision, with_keys, present_chain, new_record, with_record}
+use Rattle.seal_device.specs.Sealing.{seal, seal_unless, seal_refusal, last_serial, unseal}
+use Rattle.seal_device.specs.Commands.{Command, Provision, Measure, Extend, ReadRegister, Seal, Unseal}
+use Rattle.seal_device.specs.Commands.{PowerOn, act, extend, with_chain, first_chains}
 use Rattle.seal_device.specs.Ledger.{Ledger, ledger_after, hashed_by, strings_to_extend, strings_at}
-use Rattle.seal_device.specs.Lists.{ListDevice, lists}
-use Rattle.seal_device.specs.Agreement.{Knows, Noted, strings}
+use Rattle.seal_device.specs.Ledger.{if_given, no_ledger}
+use Rattle.seal_device.specs.Lists.{ListDevice, lists, blob_of}
+use Rattle.seal_device.specs.Agreement.{Knows, Noted, strings, blobs, SerialsApart}
+use Rattle.seal_device.specs.Refusals.Seal as seals
+use Rattle.seal_device.specs.Refusals.Unseal as unseals
 
 -- the strings of a chain are among those hashed
 abbrev pub Hashed : List (List ℕ) → Chain → Type 0
@@ -22,9 +34,10 @@ Hashed hashed chain = All (Contains hashed) (strings chain)
 abbrev pub StaysNoted : Command → ListDevice → Ledger → Type 0
 StaysNoted c d ledger = Noted (act lists c d).0 (ledger_after lists c d ledger)
 
--- the ledger with more strings
-abbrev pub with_more : Ledger → List (List ℕ) → Ledger
-with_more ledger more = record ledger { hashed = ledger.hashed ++ more }
+-- the ledger with more strings, and with more blobs
+abbrev pub with_more : Ledger → List (List ℕ) → List (List ℕ) → Ledger
+with_more ledger more blobs =
+    record { hashed = ledger.hashed ++ more; made = ledger.made ++ blobs }
 
 -- what was hashed stays hashed
 still_hashed : (h more : List (List ℕ)) (chain : Chain) → Hashed h chain → Hashed (h ++ more) chain
@@ -32,17 +45,41 @@ still_hashed h more chain known = λ k d l. Contains-append_left h more _ (known
 
 -- more strings were hashed, and nothing else happened
 still_noted : (d : ListDevice) (ledger : Ledger) (more : List (List ℕ)) → Noted d ledger →
-    Noted d (with_more ledger more)
+    Noted d (with_more ledger more [])
 still_noted d ledger more noted =
     record {
       chains = λ k e l. still_hashed ledger.hashed more (get_or d.chains k e) (noted.chains k e l);
+      records = λ k e l.
+          still_hashed ledger.hashed more (get_or d.made k e).chain (noted.records k e l);
+      made = noted.made ∙ sym (append-nil ledger.made);
+      no_keys = noted.no_keys;
+      in_range = noted.in_range;
+      serials = noted.serials;
+      apart = noted.apart;
+      next = noted.next;
+    }
+
+-- the chains are others, of which all is known
+chains_noted : (d : ListDevice) (ledger : Ledger) (chains : List Chain) → Noted d ledger →
+    All (Hashed ledger.hashed) chains → Noted (record d { chains = chains }) ledger
+chains_noted d ledger chains noted known =
+    record {
+      chains = known;
+      records = noted.records;
+      made = noted.made;
+      no_keys = noted.no_keys;
+      in_range = noted.in_range;
+      serials = noted.serials;
+      apart = noted.apart;
+      next = noted.next;
     }
 
 -- a chain of which all is known comes into a register
 chain_noted : (d : ListDevice) (ledger : Ledger) (r : ℕ) (chain : Chain) → Noted d ledger →
     Hashed ledger.hashed chain → Noted (with_chain d r chain) ledger
 chain_noted d ledger r chain noted known =
-    record { chains = All-set (Hashed ledger.hashed) d.chains r chain known noted.chains }
+    chains_noted d ledger _ noted
+    (All-set (Hashed ledger.hashed) d.chains r chain known noted.chains)
 
 -- a chain with one text more, whose strings were hashed
 one_more : (h : List (List ℕ)) (chain : Chain) (text : List ℕ) → Hashed h chain →
@@ -53,14 +90,30 @@ one_more h chain text known =
     (λ k d l. Contains-append_right h more _ (All-contains_itself more k d l))
 
 -- a start has no strings
-none_hashed : (h : List (List ℕ)) (start : Start) → Hashed h (From start)
+pub none_hashed : (h : List (List ℕ)) (start : Start) → Hashed h (From start)
 none_hashed h start = λ k d l. absurd (omega arith)
+
+-- what each of a list has, and something else, has what stands at a place, or that where none does
+at_or : {X : Type 0} (P : X → Type 0) (xs : List X) (i : ℕ) (x : X) → All P xs → P x →
+    P (get_or xs i x)
+at_or P [] i x each other = other
+at_or P (y ∷ ys) zero x each other = each 0 y (omega arith)
+at_or P (y ∷ ys) (suc i) x each other = at_or P ys i x (All-tail P y ys each) other
+
+-- the strings of register 17's chain were hashed
+pub present_hashed : (d : ListDevice) (ledger : Ledger) → Noted d ledger →
+    Hashed ledger.hashed (present_chain lists d)
+present_hashed d ledger noted =
+    at_or (Hashed ledger.hashed) d.chains launch_register (From launch_start) noted.chains
+    (none_hashed ledger.hashed launch_start)
+
+-- ---- registers
 
 measure_noted : (image : List ℕ) (d : ListDevice) (ledger : Ledger) → Noted d ledger →
     StaysNoted (Measure image) d ledger
 measure_noted image d ledger noted =
     let more = strings_to_extend (start_value launch_start) image in
-    chain_noted d (with_more ledger more) launch_register (From launch_start ▷ image)
+    chain_noted d (with_more ledger more []) launch_register (From launch_start ▷ image)
     (still_noted d ledger more noted)
     (one_more ledger.hashed (From launch_start) image (none_hashed ledger.hashed launch_start))
 
@@ -68,7 +121,7 @@ extend_noted : (r : ℕ) (text : List ℕ) (d : ListDevice) (ledger : Ledger) �
     StaysNoted (Extend r text) d ledger
 extend_noted r text d ledger noted = by_chain (slice_get d.chains r) refl where
   by_chain : (o : Option Chain) → slice_get d.chains r ≡ o →
-      Noted (extend lists r text d o).0 (with_more ledger (strings_at lists text o))
+      Noted (extend lists r text d o).0 (with_more ledger (strings_at lists text o) [])
   by_chain None is = still_noted d ledger [] noted
   by_chain (Some chain) is =
       let more = strings_to_extend (value chain) text in
@@ -76,22 +129,171 @@ extend_noted r text d ledger noted = by_chain (slice_get d.chains r) refl where
       let known : Hashed ledger.hashed chain =
       subst (Hashed ledger.hashed) at
       (noted.chains r chain (slice_get_within d.chains r chain is)) in
-      chain_noted d (with_more ledger more) r (chain ▷ text) (still_noted d ledger more noted)
+      chain_noted d (with_more ledger more []) r (chain ▷ text) (still_noted d ledger more noted)
       (one_more ledger.hashed chain text known)
 
 -- at power-on each chain is a start
-pub blank_noted : (h : List (List ℕ)) → All (Hashed h) (first_chains lists)
-blank_noted h =
+pub blank_chains : (h : List (List ℕ)) → All (Hashed h) (first_chains lists)
+blank_chains h =
     All-map (Hashed h) (λ r. From (power_start r)) register_numbers
     (λ k d l. none_hashed h (power_start (get_or register_numbers k d)))
+
+-- an empty ledger has what a device knows that was never used
+pub blank_noted : Noted (record { chains = first_chains lists; keys = None; serial = 0; made = [] })
+    no_ledger
+blank_noted =
+    record {
+      chains = blank_chains [];
+      records = λ k e l. absurd (omega arith);
+      made = refl;
+      no_keys = λ none. refl;
+      in_range = λ k e l. absurd (omega arith);
+      serials = λ k e l. absurd (omega arith);
+      apart = λ one other there here same. absurd (let none = there.1 in omega arith);
+      next = omega arith;
+    }
+
+-- ---- keys
+
+provision_noted : (seed : List ℕ) (d : ListDevice) (ledger : Ledger) → Noted d ledger →
+    StaysNoted (Provision seed) d ledger
+provision_noted seed d ledger noted = by_keys d.keys refl where
+  by_keys : (k : Option Keys) → d.keys ≡ k →
+      Noted (provision (keys_of seed) d k).0 (with_more ledger [] [])
+  by_keys (Some keys) is = still_noted d ledger [] noted
+  by_keys None is =
+      let none = noted.no_keys is in
+      still_noted (record d { keys = Some (keys_of seed) }) ledger [] (record {
+        chains = noted.chains;
+        records = noted.records;
+        made = ap (map (blob_of (keys_of seed))) none
+            ∙ sym (ap (λ (k : Option Keys). blobs k d.made) is)
+            ∙ noted.made;
+        no_keys = λ never. none;
+        in_range = noted.in_range;
+        serials = noted.serials;
+        apart = noted.apart;
+        next = noted.next;
+      })
+
+-- ---- sealing
+
+-- a serial above all of the records stays apart from them
+apart_more : (made : List (Sealed Chain)) (r : Sealed Chain) → SerialsApart made →
+    All (λ s. s.serial < r.serial) made → SerialsApart (made ++ r ∷ [])
+apart_more made r apart below one other there here same =
+    elim (Contains-push_cases made r one there) [
+      | inl old ↦ elim (Contains-push_cases made r other here) [
+        | inl old' ↦ apart one other old old' same
+        | inr new' ↦
+            let low = All-contains (λ (s : Sealed Chain). s.serial < r.serial) made one below old in
+            let top = ap (λ (s : Sealed Chain). s.serial) new' in
+            absurd (omega arith)
+      ]
+      | inr new ↦ elim (Contains-push_cases made r other here) [
+        | inl old' ↦
+            let low = All-contains (λ (s : Sealed Chain). s.serial < r.serial) made other below
+            old' in
+            let top = ap (λ (s : Sealed Chain). s.serial) new in
+            absurd (omega arith)
+        | inr new' ↦ sym new ∙ new'
+      ]
+    ]
+
+-- a record more, in register 17's chain
+record_noted : (bytes : List ℕ) (d : ListDevice) (ledger : Ledger) (keys : Keys) →
+    d.keys ≡ Some keys → Noted d ledger → length bytes ≤ 2048 → d.serial < last_serial →
+    Noted (with_record lists (new_record lists bytes d) d)
+    (with_more ledger [] (blob_of keys (new_record lists bytes d) ∷ []))
+record_noted bytes d ledger keys is noted short below =
+    let r = new_record lists bytes d in
+    let next = noted.next in
+    record {
+      chains = λ k e l. still_hashed ledger.hashed [] (get_or d.chains k e) (noted.chains k e l);
+      records =
+          All-push (λ s. Hashed (ledger.hashed ++ []) s.chain) d.made r
+          (λ k e l. still_hashed ledger.hashed [] (get_or d.made k e).chain (noted.records k e l))
+          (still_hashed ledger.hashed [] r.chain (present_hashed d ledger noted));
+      made =
+          ap (λ (k : Option Keys). blobs k (d.made ++ r ∷ [])) is
+          ∙ map-append (blob_of keys) d.made (r ∷ [])
+          ∙ ap (λ (all : List (List ℕ)). all ++ blob_of keys r ∷ [])
+          (sym (ap (λ (k : Option Keys). blobs k d.made) is) ∙ noted.made);
+      no_keys = λ none. absurd (let clash : None ≡ Some keys = sym none ∙ is in cc);
+      in_range =
+          All-push InRange d.made r noted.in_range
+          (record { serial = next; counter = tt; bytes = short });
+      serials =
+          All-push (λ s. s.serial < d.serial + 1) d.made r
+          (All-weaker (λ s. s.serial < d.serial) (λ s. s.serial < d.serial + 1)
+          (λ s low. omega arith) d.made noted.serials)
+          (omega arith);
+      apart = apart_more d.made r noted.apart noted.serials;
+      next = omega arith;
+    }
+
+-- where there is no refusal, the bytes are not too many and there is a serial
+pub no_refusal_is : (serial : ℕ) (bytes : List ℕ) (counter : Option ℕ) →
+    seal_refusal serial bytes counter ≡ None →
+    (length bytes ≤ 2048) × (is_some counter ≡ false) × (eqb serial last_serial ≡ false)
+no_refusal_is serial bytes counter none =
+    by_length (ltb 2048 (length bytes)) refl (is_some counter) refl (eqb serial last_serial) refl
+    none where
+      by_length : (a : Bool) → ltb 2048 (length bytes) ≡ a → (b : Bool) → is_some counter ≡ b →
+          (c : Bool) → eqb serial last_serial ≡ c → seal_refusal serial bytes counter ≡ None →
+          (length bytes ≤ 2048) × (is_some counter ≡ false) × (eqb serial last_serial ≡ false)
+      by_length false one false two false three is =
+          (ltb-false 2048 (length bytes) one, two, three)
+      by_length true one b two c three is =
+          absurd (let no = rw one at is in cc)
+      by_length false one true two c three is =
+          absurd (let no = rw (one, two) at is in cc)
+      by_length false one false two true three is =
+          absurd (let no = rw (one, two, three) at is in cc)
+
+seal_noted : (bytes : List ℕ) (counter : Option ℕ) (ahead : Bool) (d : ListDevice)
+    (ledger : Ledger) → Noted d ledger → StaysNoted (Seal bytes counter ahead) d ledger
+seal_noted bytes counter ahead d ledger noted = by_keys d.keys refl where
+  by_refusal : (keys : Keys) → d.keys ≡ Some keys → (o : Option seals.Refusal) →
+      seal_refusal d.serial bytes counter ≡ o →
+      Noted (seal_unless lists bytes d keys o).0
+      (with_more ledger [] (if_given (seal_unless lists bytes d keys o).1))
+  by_refusal keys is (Some refusal) why = still_noted d ledger [] noted
+  by_refusal keys is None why =
+      let told = no_refusal_is d.serial bytes counter why in
+      let next = noted.next in
+      let other = eqb-false d.serial last_serial told.2 in
+      record_noted bytes d ledger keys is noted told.0 (omega arith)
+
+  by_keys : (k : Option Keys) → d.keys ≡ k →
+      Noted (with_keys seals.Unprovisioned d (seal lists bytes counter d) k).0
+      (with_more ledger []
+      (if_given (with_keys seals.Unprovisioned d (seal lists bytes counter d) k).1))
+  by_keys None is = still_noted d ledger [] noted
+  by_keys (Some keys) is = by_refusal keys is (seal_refusal d.serial bytes counter) refl
+
+unseal_noted : (bytes : List ℕ) (d : ListDevice) (ledger : Ledger) → Noted d ledger →
+    StaysNoted (Unseal bytes) d ledger
+unseal_noted bytes d ledger noted = by_keys d.keys where
+  by_keys : (k : Option Keys) →
+      Noted (with_keys unseals.Unprovisioned d (unseal lists bytes d) k).0
+      (with_more ledger [] [])
+  by_keys None = still_noted d ledger [] noted
+  by_keys (Some keys) = still_noted d ledger [] noted
 
 -- each command keeps it
 pub stays_noted : (c : Command) (d : ListDevice) (ledger : Ledger) → Noted d ledger →
     StaysNoted c d ledger
+stays_noted (Provision seed) d ledger noted = provision_noted seed d ledger noted
 stays_noted (Measure image) d ledger noted = measure_noted image d ledger noted
 stays_noted (Extend r text) d ledger noted = extend_noted r text d ledger noted
 stays_noted (ReadRegister r) d ledger noted = still_noted d ledger [] noted
-stays_noted PowerOn d ledger noted = record { chains = blank_noted (ledger.hashed ++ []) }
+stays_noted (Seal bytes counter ahead) d ledger noted =
+    seal_noted bytes counter ahead d ledger noted
+stays_noted (Unseal bytes) d ledger noted = unseal_noted bytes d ledger noted
+stays_noted PowerOn d ledger noted =
+    chains_noted d (with_more ledger [] []) (first_chains lists) (still_noted d ledger [] noted)
+    (blank_chains (ledger.hashed ++ []))
 
 -- ---- the ledger gains no more
 
@@ -116,5 +318,8 @@ known_after (Extend r text) d count = by_chain (slice_get d.chains r) refl where
       All (Knows (extend lists r text d o).0) (strings_at lists text o)
   by_chain None is = λ k e l. absurd (omega arith)
   by_chain (Some chain) is = last_known d r chain text (slice_get_within d.chains r chain is)
+known_after (Provision seed) d count = λ k e l. absurd (omega arith)
 known_after (ReadRegister r) d count = λ k e l. absurd (omega arith)
+known_after (Seal bytes counter ahead) d count = λ k e l. absurd (omega arith)
+known_after (Unseal bytes) d count = λ k e l. absurd (omega arith)
 known_after PowerOn d count = λ k e l. absurd (omega arith)

@@ -3,3 +3,12 @@ pub mod Alike
 pub mod Known
 pub mod Plans
 pub mod Values
+pub mod Tags
+pub mod Writes
+pub mod Reading
+pub mod Making
+pub mod BlobFields
+pub mod BlobLaws
+pub mod Openings
+pub mod Serials
+pub mod Kept

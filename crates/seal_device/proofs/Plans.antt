@@ -9,14 +9,17 @@ use Rattle.flk_base.specs.Stop.{Limit, limited, Fused, with_fuse, end_of, fused}
 use Rattle.flk_base.specs.StopLaws.{only-limited}
 use Rattle.std.proofs.lemmas.List.Elements.{Contains-append_left}
 use Rattle.seal_device.specs.Rules.{Device, Rules}
-use Rattle.seal_device.specs.Commands.{Command, Reply, act, blank, compares, costs}
+use Rattle.seal_device.specs.Commands.{Command, Provision, Measure, Extend, ReadRegister, Seal, Unseal}
+use Rattle.seal_device.specs.Commands.{PowerOn, Reply, act, blank, compares, costs}
 use Rattle.seal_device.specs.Digests.{DigestDevice, digests, on_device}
-use Rattle.seal_device.specs.Ledger.{Ledger, no_ledger, Clean, Fair, noted, hashed_by}
+use Rattle.seal_device.specs.Ledger.{Ledger, no_ledger, Clean, Unforged, Fair, noted, hashed_by}
+use Rattle.seal_device.specs.Ledger.{made_by, ledger_after}
 use Rattle.seal_device.specs.Lists.{ListDevice, lists}
 use Rattle.seal_device.specs.Agreement.{digested, fused_digested, end_digested, Noted, Agrees}
-use Rattle.seal_device.specs.Agreement.{FusedAgree, FairPlan, ComparesNothing}
+use Rattle.seal_device.specs.Agreement.{FusedAgree, FairPlan, UnforgedPlan, ComparesNothing}
 use Rattle.seal_device.proofs.Alike.{Alike, alike, hashed_alike}
 use Rattle.seal_device.proofs.Known.{with_more, stays_noted, blank_noted}
+use Rattle.seal_device.proofs.Openings.{unseal_alike}
 
 -- ---- plans that compare nothing
 
@@ -60,11 +63,28 @@ digested_plan plan before nothing =
 
 -- ---- fair plans
 
--- a command that is fair is answered alike: none compares
+-- the first of strings that are clean are clean
+clean_before : (h more : List (List ℕ)) → Clean (h ++ more) → Clean h
+clean_before h more clean = record {
+  apart = λ x y one other.
+      clean.apart x y (Contains-append_left h more x one) (Contains-append_left h more y other);
+  no_start = λ x one. clean.no_start x (Contains-append_left h more x one);
+}
+
+-- a command that is fair is answered alike
 fair_alike : (c : Command) (d : ListDevice) (ledger : Ledger) →
     Fair digests c (digested d, ledger) →
     Noted d ledger → Alike c d
-fair_alike c d ledger fair noted = alike c d refl
+fair_alike (Provision seed) d ledger fair noted = alike (Provision seed) d refl
+fair_alike (Measure image) d ledger fair noted = alike (Measure image) d refl
+fair_alike (Extend r text) d ledger fair noted = alike (Extend r text) d refl
+fair_alike (ReadRegister r) d ledger fair noted = alike (ReadRegister r) d refl
+fair_alike (Seal bytes counter ahead) d ledger fair noted =
+    alike (Seal bytes counter ahead) d refl
+fair_alike (Unseal bytes) d ledger fair noted =
+    let here = fair refl in
+    unseal_alike bytes d ledger noted (clean_before ledger.hashed [] here.0) here.1
+fair_alike PowerOn d ledger fair noted = alike PowerOn d refl
 
 -- the law of one command: where it is fair it is answered alike, and agreement is kept
 fair_law : AnswerAlike (noted lists) (noted digests) (Fair digests) Agrees
@@ -80,7 +100,11 @@ fair_law c w v fair agree =
           let one = fair_alike c w.0 w.1 fair agree.known in (
             record {
               device = ap (λ (end : DigestDevice × Reply c). end.0) (sym one);
-              ledger = ap (λ more. with_more w.1 more) (sym (hashed_alike c w.0));
+              ledger =
+                  ap (λ (more : List (List ℕ)).
+                  with_more w.1 more (made_by c (act lists c w.0).1)) (sym (hashed_alike c w.0))
+                  ∙ ap (λ (end : DigestDevice × Reply c).
+                  with_more w.1 (hashed_by digests c (digested w.0)) (made_by c end.1)) (sym one);
               known = stays_noted c w.0 w.1 agree.known;
             },
             ap (λ (end : DigestDevice × Reply c). end.1) (sym one),
@@ -106,14 +130,14 @@ fair_plan {X} plan fuse w v fair agree =
     )
 
 -- a ledger changes nothing else
-unnoted : {H X : Type 0} (R : Rules H) (plan : Plan Command Reply X) (d : Device H)
+pub unnoted : {H M X : Type 0} (R : Rules H M) (plan : Plan Command Reply X) (d : Device H M)
     (ledger : Ledger) →
     EndAlike (λ w e. w.0 ≡ e) (run (noted R) plan (d, ledger)) (run (act R) plan d)
-unnoted {H} R plan d ledger =
+unnoted {H} {M} R plan d ledger =
     plans_alike (noted R) (act R) (λ c e. ⊤) (λ w e. w.0 ≡ e)
     (λ c w e fact same. (
-      ap (λ (e : Device H). (act R c e).0) same,
-      ap (λ (e : Device H). (act R c e).1) same,
+      ap (λ (e : Device H M). (act R c e).0) same,
+      ap (λ (e : Device H M). (act R c e).1) same,
     ))
     plan (d, ledger) d (always_throughout (act R) (λ c e. ⊤) (λ c e. tt) plan d) refl
 
@@ -155,32 +179,33 @@ plan_noted plan before known =
 
 -- ---- whole runs
 
--- the first of strings that are clean are clean
-clean_before : (h more : List (List ℕ)) → Clean (h ++ more) → Clean h
-clean_before h more clean = record {
-  apart = λ x y one other.
-      clean.apart x y (Contains-append_left h more x one) (Contains-append_left h more y other);
-  no_start = λ x one. clean.no_start x (Contains-append_left h more x one);
-}
-
 -- a plan is fair as far as its fuse lets it run, if what was hashed is clean where it ends
 pub clean_plan : {X : Type 0} (plan : Plan Command Reply X)
     (before : Fused (DigestDevice × Ledger)) →
     Clean (fused costs (noted digests) plan before).0.state.1.hashed →
+    UnforgedPlan (limited costs plan before.fuse) before.state →
     FairPlan (limited costs plan before.fuse) before.state
-clean_plan plan before clean =
-    throughout_from_end (noted digests) (λ v. Clean v.1.hashed) (Fair digests)
+clean_plan plan before clean unforged =
+    let CleanHere : Command → DigestDevice × Ledger → Type 0 =
+    λ c v. Clean (ledger_after digests c v.0 v.1).hashed in
+    let short = limited costs plan before.fuse in
+    throughout_both (noted digests) CleanHere Unforged (Fair digests)
+    (λ c v one other comparing. (one, other))
+    short before.state
+    (throughout_from_end (noted digests) (λ v. Clean v.1.hashed) CleanHere
     (λ c v clean. clean_before v.1.hashed (hashed_by digests c v.0) clean)
-    (λ c v clean comparing. clean)
-    (limited costs plan before.fuse) before.state clean
+    (λ c v clean. clean)
+    short before.state clean)
+    unforged
 
 -- from devices that were never used
 pub clean_digested : {X : Type 0} (plan : Plan Command Reply X) (fuse : Limit) →
     Clean (fused costs (noted digests) plan
     (with_fuse (blank digests, no_ledger) fuse)).0.state.1.hashed →
+    UnforgedPlan (limited costs plan fuse) (blank digests, no_ledger) →
     on_device plan (with_fuse (blank digests) fuse)
     ≡ end_digested (fused costs (act lists) plan (with_fuse (blank lists) fuse))
-clean_digested plan fuse clean =
+clean_digested plan fuse clean unforged =
     fair_digested plan (with_fuse (blank lists) fuse) no_ledger
-    (clean_plan plan (with_fuse (blank digests, no_ledger) fuse) clean)
-    (record { chains = blank_noted [] })
+    (clean_plan plan (with_fuse (blank digests, no_ledger) fuse) clean unforged)
+    blank_noted

@@ -14,7 +14,7 @@ length-sha1 : (text : List ℕ) → length (sha1 text) ≡ 20
 unfolding sha1 digest_bytes
 length-sha1 text = refl
 
-length-value : (chain : Chain) → length (value chain) ≡ 20
+pub length-value : (chain : Chain) → length (value chain) ≡ 20
 length-value (From Zeros) = refl
 length-value (From Ones) = refl
 length-value (chain ▷ text) = length-sha1 (value chain ++ sha1 text)

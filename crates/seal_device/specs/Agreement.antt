@@ -1,16 +1,20 @@
 -- When a device of lists and one of digests agree.
-use Rattle.std.specs.Prelude.{◌≡◌, false, List, [], ℕ, ◌++◌, map, All, Contains}
+use Rattle.std.specs.Prelude.{◌≡◌, ◌<◌, ◌^◌, false, List, [], ℕ, ◌++◌, map, All, Contains}
+use Rattle.std.specs.Prelude.{Option, Some, None}
 use Rattle.tpm_state.specs.Chain.{Chain, From, ◌▷◌, value}
 use Rattle.flk_base.specs.Plan.{Plan, Throughout, GivesOnly}
 use Rattle.flk_base.specs.Stop.{Fused, with_fuse}
+use Rattle.seal_device.specs.Keys.{Keys}
+use Rattle.seal_device.specs.Sealed.{Sealed, InRange}
 use Rattle.seal_device.specs.Commands.{Command, Reply, compares}
 use Rattle.seal_device.specs.Digests.{DigestDevice, digests}
-use Rattle.seal_device.specs.Ledger.{Ledger, strings_to_extend, noted, Fair}
-use Rattle.seal_device.specs.Lists.{ListDevice}
+use Rattle.seal_device.specs.Ledger.{Ledger, strings_to_extend, noted, Fair, Unforged}
+use Rattle.seal_device.specs.Lists.{ListDevice, blob_of}
 
 -- the device of digests that a device of lists stands for
 abbrev pub digested : ListDevice → DigestDevice
-digested d = record { chains = map value d.chains }
+digested d =
+    record { chains = map value d.chains; keys = d.keys; serial = d.serial; made = tt }
 
 -- a device of lists by digests, beside the reply to a command
 abbrev pub reply_digested : {X : Type 0} → ListDevice × X → DigestDevice × X
@@ -33,9 +37,33 @@ strings (chain ▷ text) = strings chain ++ strings_to_extend (value chain) text
 abbrev pub Knows : ListDevice → List ℕ → Type 0
 Knows d text = (chain : Chain) × Contains d.chains chain × Contains (strings chain) text
 
--- the ledger has what a device of lists knows: the strings of each of its chains
+-- the blobs of records under these keys: none where there are no keys
+abbrev pub blobs : Option Keys → List (Sealed Chain) → List (List ℕ)
+blobs None made = []
+blobs (Some keys) made = map (blob_of keys) made
+
+-- the strings of a chain are in the ledger
+abbrev pub InLedger : Ledger → Chain → Type 0
+InLedger ledger chain = All (Contains ledger.hashed) (strings chain)
+
+-- two records with one serial are one
+abbrev pub SerialsApart : List (Sealed Chain) → Type 0
+SerialsApart made =
+    (one other : Sealed Chain) → Contains made one → Contains made other →
+    one.serial ≡ other.serial → one ≡ other
+
+-- the ledger has what a device of lists knows: the strings of each of its chains and records, and
+-- the blobs of the records in their order. Without keys there is no record; the numbers of each are
+-- in their ranges, its serial is below the next one, and no two have one serial
 pub record Noted (d : ListDevice) (ledger : Ledger) : Type 0 where
-  pub chains : All (λ chain. All (Contains ledger.hashed) (strings chain)) d.chains
+  pub chains : All (InLedger ledger) d.chains
+  pub records : All (λ r. InLedger ledger r.chain) d.made
+  pub made : blobs d.keys d.made ≡ ledger.made
+  pub no_keys : d.keys ≡ None → d.made ≡ []
+  pub in_range : All InRange d.made
+  pub serials : All (λ r. r.serial < d.serial) d.made
+  pub apart : SerialsApart d.made
+  pub next : d.serial < 2 ^ 64
 
 -- a device of lists stands for one of digests, and they have one ledger, with all that the first
 -- knows
@@ -53,6 +81,10 @@ pub record FusedAgree (a : Fused (ListDevice × Ledger)) (b : Fused (DigestDevic
 -- a plan is fair from here on: each command that it gives is fair where it is given
 abbrev pub FairPlan : {X : Type 0} → Plan Command Reply X → DigestDevice × Ledger → Type 0
 FairPlan plan v = Throughout (noted digests) (Fair digests) plan v
+
+-- no blob is forged that the plan shows from here on
+abbrev pub UnforgedPlan : {X : Type 0} → Plan Command Reply X → DigestDevice × Ledger → Type 0
+UnforgedPlan plan v = Throughout (noted digests) Unforged plan v
 
 -- no command of the plan compares
 abbrev pub ComparesNothing : {X : Type 0} → Plan Command Reply X → Type 0

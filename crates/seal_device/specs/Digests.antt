@@ -1,18 +1,28 @@
--- The platform of digests: a chain is kept as the 20 bytes that it shows.
-use Rattle.std.specs.Prelude.{ℕ, List, Option}
+-- The platform of digests: a chain is kept as the 20 bytes that it shows, nothing is kept of what
+-- was sealed, and a blob is whatever has the form and the tag of one.
+use Rattle.std.specs.Prelude.{ℕ, List, Option, bytes_eq}
 use Rattle.tpm_state.specs.Chain.{start_value, extended_value}
 use Rattle.flk_base.specs.Plan.{Plan}
 use Rattle.flk_base.specs.Stop.{Fused, fused}
+use Rattle.seal_device.specs.Blobs.{parsed}
 use Rattle.seal_device.specs.Rules.{Device, Rules}
 use Rattle.seal_device.specs.Commands.{Command, Reply, act, costs}
 
 -- a device that keeps 20 bytes of each register
 abbrev pub DigestDevice : Type 0
-DigestDevice = Device (List ℕ)
+DigestDevice = Device (List ℕ) (Unit {0})
 
 -- the rules of digests
-abbrev pub digests : Rules (List ℕ)
-digests = record { start = start_value; extended = extended_value; shown = λ value. value }
+abbrev pub digests : Rules (List ℕ) (Unit {0})
+digests = record {
+  start = start_value;
+  extended = extended_value;
+  shown = λ value. value;
+  same = bytes_eq;
+  nothing_made = tt;
+  remembered = λ r made. tt;
+  opened = λ keys made bytes. parsed keys bytes;
+}
 
 -- a plan on a device of digests with a fuse: what stands after it, and its value unless power was
 -- lost

@@ -1,9 +1,18 @@
 -- The errors of the code's calls: one for each refusal of a command, and one more where the power
 -- was lost.
+use Rattle.std.specs.Prelude.{Result, Ok, Err}
 use Rattle.flk_base.specs.declared.fuse.PowerLost.{PowerLost}
 use Rattle.seal_device.specs.Refusals.Register as registers
-use Rattle.seal_device.specs.declared.device.RegisterFault.{RegisterFault}
-use Rattle.seal_device.specs.declared.device.RegisterFault.TheVariants as register_faults
+use Rattle.seal_device.specs.Refusals.Seed as seeds
+use Rattle.seal_device.specs.Refusals.Seal as seals
+use Rattle.seal_device.specs.Refusals.Unseal as unseals
+use Rattle.seal_device.specs.declared.faults.Provisioned.{Provisioned}
+use Rattle.seal_device.specs.declared.faults.RegisterFault.{RegisterFault}
+use Rattle.seal_device.specs.declared.faults.RegisterFault.TheVariants as register_faults
+use Rattle.seal_device.specs.declared.faults.SealFault.{SealFault}
+use Rattle.seal_device.specs.declared.faults.SealFault.TheVariants as seal_faults
+use Rattle.seal_device.specs.declared.faults.UnsealFault.{UnsealFault}
+use Rattle.seal_device.specs.declared.faults.UnsealFault.TheVariants as unseal_faults
 
 -- the error of a call that fails by lost power alone
 abbrev pub power_lost : PowerLost
@@ -12,3 +21,22 @@ power_lost = record {}
 -- the error for a refused register
 abbrev pub register_fault : registers.Refusal → RegisterFault
 register_fault registers.NoRegister = register_faults.NoRegister
+
+-- what is answered to a seed: no power is lost there
+abbrev pub provision_answer : Result (Unit {0}) seeds.Refusal → Result (Unit {0}) Provisioned
+provision_answer (Ok done) = Ok done
+provision_answer (Err seeds.Provisioned) = Err (record {})
+
+-- the error for bytes that are not sealed
+abbrev pub seal_fault : seals.Refusal → SealFault
+seal_fault seals.Unprovisioned = seal_faults.Unprovisioned
+seal_fault seals.TooLong = seal_faults.TooLong
+seal_fault seals.NoCounter = seal_faults.NoCounter
+seal_fault seals.SerialEnd = seal_faults.SerialEnd
+
+-- the error for bytes that are not unsealed
+abbrev pub unseal_fault : unseals.Refusal → UnsealFault
+unseal_fault unseals.Unprovisioned = unseal_faults.Unprovisioned
+unseal_fault unseals.NotBlob = unseal_faults.NotBlob
+unseal_fault unseals.WrongChain = unseal_faults.WrongChain
+unseal_fault unseals.WrongCounter = unseal_faults.WrongCounter

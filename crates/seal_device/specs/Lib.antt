@@ -1,5 +1,9 @@
 pub mod Refusals
+pub mod Keys
+pub mod Sealed
+pub mod Blobs
 pub mod Rules
+pub mod Sealing
 pub mod Commands
 pub mod Digests
 pub mod Ledger

@@ -1,15 +1,36 @@
 -- A device, and the few places where a platform of lists and one of digests differ. H is what the
--- history of a register is kept as: all its texts, or 20 bytes.
-use Rattle.std.specs.Prelude.{ℕ, List}
-use Rattle.tpm_state.specs.Chain.{Start}
+-- history of a register is kept as, all its texts or 20 bytes; M is what is kept of the records
+-- that were sealed, all of them or nothing.
+use Rattle.std.specs.Prelude.{ℕ, List, Bool, Option}
+use Rattle.tpm_state.specs.Chain.{Start, Zeros}
+use Rattle.seal_device.specs.Keys.{Keys}
+use Rattle.seal_device.specs.Sealed.{Sealed}
 
--- a device: the chain of each register
-pub record Device (H : Type 0) : Type 0 where
+-- a device: the chain of each register, the keys, once it has a seed, the serial of the next record
+-- that is sealed, and what is kept of those that were
+pub record Device (H M : Type 0) : Type 0 where
   pub chains : List H
+  pub keys : Option Keys
+  pub serial : ℕ
+  pub made : M
 
 -- the rules of a platform: a chain that begins, a chain with one text more, the 20 bytes that it
--- shows
-pub record Rules (H : Type 0) : Type 0 where
+-- shows, whether two are the same; what is kept where nothing was sealed, and with one record more;
+-- and the record whose blob bytes are, if they are one
+pub record Rules (H M : Type 0) : Type 0 where
   pub start : Start → H
   pub extended : H → List ℕ → H
   pub shown : H → List ℕ
+  pub same : H → H → Bool
+  pub nothing_made : M
+  pub remembered : Sealed H → M → M
+  pub opened : Keys → M → List ℕ → Option (Sealed H)
+
+-- the register that a late launch resets, to whose chain records are bound (AMD64 manual, volume 2,
+-- SKINIT)
+abbrev pub launch_register : ℕ
+launch_register = 17
+
+-- where register 17 starts when a late launch resets it
+abbrev pub launch_start : Start
+launch_start = Zeros

@@ -1,29 +1,28 @@
 // The device.
-ghost use Rattle.std.specs.Prelude.{◌≡◌, ◌++◌};
+ghost use Rattle.std.specs.Prelude.{◌≡◌, ◌≤◌, ◌++◌, ◌+◌, length, Some, IfOk, slice_index_or, []};
 ghost use Rattle.flk_base.specs.Plan.{ask};
-ghost use Rattle.flk_base.specs.Stop.{Ends, or_lost, reported, with_fuse};
+ghost use Rattle.flk_base.specs.Stop.{Ends, or_lost, reported, reported_into, with_fuse};
+ghost use Rattle.seal_device.specs.Blobs.{blob_size};
 ghost use Rattle.seal_device.specs.Commands.{Command, act, blank};
 ghost use Rattle.seal_device.specs.Digests.{digests, on_device};
-ghost use Rattle.seal_device.specs.Faults.{power_lost, register_fault};
+ghost use Rattle.seal_device.specs.Faults.{power_lost, register_fault, provision_answer, seal_fault};
+ghost use Rattle.seal_device.specs.Faults.{unseal_fault};
 
+use crate::blobs::{BLOB_ROOM, LONGEST_SEALED, open_into, seal_into};
+use crate::faults::{Provisioned, RegisterFault, SealFault, UnsealFault};
+use crate::keys::Keys;
 use flk_base::{Fuse, PowerLost};
 use std::marker::Model;
 use tpm_state::{Bank, NoRegister};
 
-/// Why a register was neither extended nor read, with the number of the fault.
-#[derive(Clone, Copy, Debug, PartialEq, Eq)]
-pub enum RegisterFault {
-    /// There is no register of this number.
-    NoRegister = 1,
-    /// The power was lost before the step.
-    PowerLost = 5,
-}
-
-/// The device: its 24 registers. Contracts see the device of the platform of digests. A call with a
-/// fuse takes its step first: where the power is lost there, nothing else changes.
+/// The device: its 24 registers, the keys once it has a seed, which is not kept, and the serial of
+/// the next record that it seals. Contracts see the device of the platform of digests. A call with
+/// a fuse takes its step first: where the power is lost there, nothing else changes.
 #[derive(Drop)]
 pub struct Device {
     bank: Bank,
+    keys: Option<Keys>,
+    serial: u64,
 }
 
 impl Model for Device {
@@ -33,7 +32,12 @@ impl Model for Device {
 
     ghost Value = { DigestDevice };
 
-    ghost view = { λ d. record { chains = d.bank } };
+    ghost view = { λ d. record {
+      chains = d.bank;
+      keys = d.keys;
+      serial = d.serial;
+      made = tt;
+    } };
 
     ghost invariant = { λ d. length d.bank ≡ register_count };
 }
@@ -45,6 +49,8 @@ impl Device {
     {
         Device {
             bank: Bank::power_on(),
+            keys: None,
+            serial: 0,
         }
     }
 
@@ -106,6 +112,87 @@ impl Device {
                 Ok(value) => Ok(value),
                 Err(NoRegister) => Err(RegisterFault::NoRegister),
             },
+        }
+    }
+
+    /// Takes a seed of any length: its keys are derived and kept, the seed is not. Where the device
+    /// has one, it is refused, and nothing changes. It takes no step.
+    pub fn provision(&mut self, seed: &[u8]) -> Result<(), Provisioned>
+        ensures device { self.new ≡ (act digests (Command.Provision seed.now) self.old).0 }
+        ensures answer { result
+            ≡ provision_answer (act digests (Command.Provision seed.now) self.old).1 }
+    {
+        if self.keys.is_some() {
+            return Err(Provisioned);
+        }
+        self.keys = Some(Keys::of_seed(seed));
+        Ok(())
+    }
+
+    /// Seals bytes in register 17's present value: their blob stands in the first bytes of `out`,
+    /// and its length is answered, 59 more than there are bytes. Each blob has the next serial.
+    /// No counter is in use yet, so one that is asked for is refused, and `ahead` changes nothing.
+    /// A refusal leaves all but the fuse as it was, and so does lost power.
+    pub fn seal(
+        &mut self,
+        bytes: &[u8],
+        counter: Option<u8>,
+        ahead: bool,
+        out: &mut [u8; BLOB_ROOM],
+        fuse: &mut Fuse,
+    ) -> Result<usize, SealFault>
+        ensures sealed { Ends (reported_into out.old seal_fault SealFault.PowerLost)
+            (on_device (ask (Command.Seal bytes.now counter ahead))
+            (with_fuse self.old fuse.old.left))
+            (with_fuse self.new fuse.new.left) (result, out.new) }
+        ensures size { IfOk result (λ size. size ≤ blob_size LONGEST_SEALED) }
+    {
+        if fuse.step().is_err() {
+            return Err(SealFault::PowerLost);
+        }
+        let present = self.present_value();
+        let sealed = match &self.keys {
+            None => Err(SealFault::Unprovisioned),
+            Some(keys) => seal_into(keys, self.serial, &present, bytes, counter, out),
+        };
+        if sealed.is_ok() {
+            self.serial += 1;
+        }
+        sealed
+    }
+
+    /// Unseals a blob that was sealed under this seed in register 17's present value: the bytes
+    /// that were sealed stand in the first bytes of `out`, and how many they are is answered. A
+    /// refusal leaves all but the fuse as it was, and so does lost power.
+    pub fn unseal(
+        &self,
+        blob: &[u8],
+        out: &mut [u8; LONGEST_SEALED],
+        fuse: &mut Fuse,
+    ) -> Result<usize, UnsealFault>
+        ensures unsealed { Ends (reported_into out.old unseal_fault UnsealFault.PowerLost)
+            (on_device (ask (Command.Unseal blob.now)) (with_fuse self.now fuse.old.left))
+            (with_fuse self.now fuse.new.left) (result, out.new) }
+        ensures size { IfOk result (λ size. size ≤ LONGEST_SEALED) }
+    {
+        if fuse.step().is_err() {
+            return Err(UnsealFault::PowerLost);
+        }
+        let present = self.present_value();
+        match &self.keys {
+            None => Err(UnsealFault::Unprovisioned),
+            Some(keys) => open_into(keys, &present, blob, out),
+        }
+    }
+
+    /// Register 17's value.
+    fn present_value(&self) -> [u8; 20]
+        ensures { result ≡ slice_index_or self.now.chains 17 [] }
+    {
+        let shown = self.bank.read(17);
+        match shown {
+            Ok(value) => value,
+            Err(NoRegister) => unreachable!(),
         }
     }
 }

@@ -1,11 +1,15 @@
 // Laws of the commands on a device of lists and on one of digests (specs/). Each function does
 // nothing: its clauses are laws, which are proved because they stand here.
-ghost use Rattle.std.specs.Prelude.{◌≡◌, ◌≢◌, ◌<◌, ◌+◌, true, false, List, ℕ, length, Some, None};
-ghost use Rattle.std.specs.Prelude.{slice_get, All, Contains};
+ghost use Rattle.std.specs.Prelude.{◌≡◌, ◌≢◌, ◌<◌, ◌≤◌, ◌+◌, ◌^◌, Bool, true, false, List, ℕ, length};
+ghost use Rattle.std.specs.Prelude.{Option, Some, None, Ok, Err, slice_get, All, Contains};
 ghost use Rattle.flk_base.specs.Plan.{Plan, ask, EndAlike};
 ghost use Rattle.flk_base.specs.Stop.{Limit, Fused, with_fuse, limited, fused};
 ghost use Rattle.tpm_state.specs.Chain.{Chain, value, power_start, register_count};
+ghost use Rattle.seal_device.specs.Keys.{Keys, keys_of};
 ghost use Rattle.seal_device.specs.Rules.{Device, Rules};
+ghost use Rattle.seal_device.specs.Refusals.Seed as seeds;
+ghost use Rattle.seal_device.specs.Refusals.Seal as seals;
+ghost use Rattle.seal_device.specs.Refusals.Unseal as unseals;
 ghost use Rattle.seal_device.specs.Commands.{Command, Reply, act, blank, compares, costs};
 ghost use Rattle.seal_device.specs.Commands.{launch_register, launch_start};
 ghost use Rattle.seal_device.specs.Digests.{DigestDevice, digests, on_device};
@@ -13,7 +17,7 @@ ghost use Rattle.seal_device.specs.Ledger.{Ledger, no_ledger, hashed_by, noted, 
 ghost use Rattle.seal_device.specs.Lists.{ListDevice, lists};
 ghost use Rattle.seal_device.specs.Agreement.{strings, Knows, digested, reply_digested};
 ghost use Rattle.seal_device.specs.Agreement.{fused_digested, end_digested, Noted, Agrees};
-ghost use Rattle.seal_device.specs.Agreement.{FusedAgree, FairPlan, ComparesNothing};
+ghost use Rattle.seal_device.specs.Agreement.{FusedAgree, FairPlan, UnforgedPlan, ComparesNothing};
 
 /// By digests a command that compares nothing does what it does by lists, seen by digests, and
 /// replies the same; so does a plan of such commands, wherever its fuse stops it. A device that was
@@ -63,16 +67,18 @@ pub fn fair_plans_agree<X>()
         ComparesNothing plan → FairPlan plan v }
 {}
 
-/// A plan is fair as far as its fuse lets it run, if what was hashed is clean where it ends. So
-/// from devices that were never used it does by digests what it does by lists, if all that was
-/// hashed by digests is clean.
+/// A plan is fair as far as its fuse lets it run, if what was hashed is clean where it ends and no
+/// blob was forged that it showed. So from devices that were never used it does by digests what it
+/// does by lists, if all that was hashed by digests is clean, and no blob was forged.
 pub fn clean_runs_agree<X>()
     ensures fair { (plan : Plan Command Reply X) (before : Fused (DigestDevice × Ledger)) →
         Clean (fused costs (noted digests) plan before).0.state.1.hashed →
+        UnforgedPlan (limited costs plan before.fuse) before.state →
         FairPlan (limited costs plan before.fuse) before.state }
     ensures agrees { (plan : Plan Command Reply X) (fuse : Limit) →
         Clean (fused costs (noted digests) plan
         (with_fuse (blank digests, no_ledger) fuse)).0.state.1.hashed →
+        UnforgedPlan (limited costs plan fuse) (blank digests, no_ledger) →
         on_device plan (with_fuse (blank digests) fuse)
         ≡ end_digested (fused costs (act lists) plan (with_fuse (blank lists) fuse)) }
 {}
@@ -92,34 +98,70 @@ pub fn clean_values_are_apart()
 /// What commands do to the registers, by the rules of any platform. At power-on the chains are
 /// those of a device that was never used. A launch leaves register 17 the launch's start, extended
 /// by the image; an extend leaves register r extended by the text; and both leave every other
-/// register as it was. There are always 24.
-pub fn commands_by_registers<H>()
-    ensures blank { (R : Rules H) (r : ℕ) → r < register_count →
+/// register as it was. So do the other commands leave all. There are always 24.
+pub fn commands_by_registers<H, M>()
+    ensures blank { (R : Rules H M) (r : ℕ) → r < register_count →
         slice_get (blank R).chains r ≡ Some (R.start (power_start r)) }
-    ensures power_on { (R : Rules H) (d : Device H) →
+    ensures power_on { (R : Rules H M) (d : Device H M) →
         (act R Command.PowerOn d).0.chains ≡ (blank R).chains }
-    ensures measure { (R : Rules H) (image : List ℕ) (d : Device H) →
+    ensures measure { (R : Rules H M) (image : List ℕ) (d : Device H M) →
         length d.chains ≡ register_count →
         slice_get (act R (Command.Measure image) d).0.chains launch_register
         ≡ Some (R.extended (R.start launch_start) image) }
-    ensures measure_others { (R : Rules H) (image : List ℕ) (d : Device H) (r : ℕ) →
+    ensures measure_others { (R : Rules H M) (image : List ℕ) (d : Device H M) (r : ℕ) →
         r ≢ launch_register →
         slice_get (act R (Command.Measure image) d).0.chains r ≡ slice_get d.chains r }
-    ensures extend { (R : Rules H) (r : ℕ) (text : List ℕ) (d : Device H) (chain : H) →
+    ensures extend { (R : Rules H M) (r : ℕ) (text : List ℕ) (d : Device H M) (chain : H) →
         slice_get d.chains r ≡ Some chain →
         slice_get (act R (Command.Extend r text) d).0.chains r ≡ Some (R.extended chain text) }
-    ensures extend_others { (R : Rules H) (r other : ℕ) (text : List ℕ) (d : Device H) →
+    ensures extend_others { (R : Rules H M) (r other : ℕ) (text : List ℕ) (d : Device H M) →
         other ≢ r →
         slice_get (act R (Command.Extend r text) d).0.chains other ≡ slice_get d.chains other }
-    ensures count { (R : Rules H) (c : Command) (d : Device H) →
+    ensures read { (R : Rules H M) (r : ℕ) (d : Device H M) →
+        (act R (Command.ReadRegister r) d).0 ≡ d }
+    ensures provision { (R : Rules H M) (seed : List ℕ) (d : Device H M) →
+        (act R (Command.Provision seed) d).0.chains ≡ d.chains }
+    ensures seal { (R : Rules H M) (bytes : List ℕ) (counter : Option ℕ) (ahead : Bool)
+        (d : Device H M) → (act R (Command.Seal bytes counter ahead) d).0.chains ≡ d.chains }
+    ensures unseal { (R : Rules H M) (bytes : List ℕ) (d : Device H M) →
+        (act R (Command.Unseal bytes) d).0 ≡ d }
+    ensures count { (R : Rules H M) (c : Command) (d : Device H M) →
         length d.chains ≡ register_count → length (act R c d).0.chains ≡ register_count }
 {}
 
-/// A command that costs nothing, as power-on, takes nothing from the fuse and is done at any. Each
+/// What commands do to the keys and to the serial, by the rules of any platform. The keys of a seed
+/// come once, and then stay. Without them nothing is sealed or unsealed. What is sealed gets the
+/// serial, and the next one is one more: it never falls, and stays below 2^64. What is refused
+/// changes nothing.
+pub fn commands_by_keys<H, M>()
+    ensures provision { (R : Rules H M) (seed : List ℕ) (d : Device H M) → d.keys ≡ None →
+        act R (Command.Provision seed) d ≡ (record d { keys = Some (keys_of seed) }, Ok tt) }
+    ensures provisioned { (R : Rules H M) (seed : List ℕ) (d : Device H M) (keys : Keys) →
+        d.keys ≡ Some keys → act R (Command.Provision seed) d ≡ (d, Err seeds.Provisioned) }
+    ensures stay { (R : Rules H M) (c : Command) (d : Device H M) (keys : Keys) →
+        d.keys ≡ Some keys → (act R c d).0.keys ≡ Some keys }
+    ensures no_keys_to_seal { (R : Rules H M) (bytes : List ℕ) (counter : Option ℕ) (ahead : Bool)
+        (d : Device H M) → d.keys ≡ None →
+        act R (Command.Seal bytes counter ahead) d ≡ (d, Err seals.Unprovisioned) }
+    ensures no_keys_to_unseal { (R : Rules H M) (bytes : List ℕ) (d : Device H M) → d.keys ≡ None →
+        act R (Command.Unseal bytes) d ≡ (d, Err unseals.Unprovisioned) }
+    ensures sealed { (R : Rules H M) (bytes blob : List ℕ) (counter : Option ℕ) (ahead : Bool)
+        (d : Device H M) → (act R (Command.Seal bytes counter ahead) d).1 ≡ Ok blob →
+        (act R (Command.Seal bytes counter ahead) d).0.serial ≡ d.serial + 1 }
+    ensures refused { (R : Rules H M) (bytes : List ℕ) (counter : Option ℕ) (ahead : Bool)
+        (d : Device H M) (refusal : seals.Refusal) →
+        (act R (Command.Seal bytes counter ahead) d).1 ≡ Err refusal →
+        (act R (Command.Seal bytes counter ahead) d).0 ≡ d }
+    ensures serial { (R : Rules H M) (c : Command) (d : Device H M) → d.serial < 2 ^ 64 →
+        (d.serial ≤ (act R c d).0.serial) × ((act R c d).0.serial < 2 ^ 64) }
+{}
+
+/// A command that costs nothing, as power-on and the taking of a seed, takes nothing from the fuse and is done at any. Each
 /// other command takes a step; where the fuse has none left the power is lost before it, and
 /// nothing changes.
 pub fn commands_and_the_fuse()
     ensures power_on { costs Command.PowerOn ≡ false }
+    ensures provision { (seed : List ℕ) → costs (Command.Provision seed) ≡ false }
     ensures free { (c : Command) (before : Fused DigestDevice) → costs c ≡ false →
         on_device (ask c) before ≡ (
           with_fuse (act digests c before.state).0 before.fuse,

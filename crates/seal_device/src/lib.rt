@@ -1,12 +1,19 @@
-//! The device of a platform: its registers, the commands that change and read them, and the law
-//! that keeping digests of what was hashed answers as keeping all of it does.
+//! The device of a platform: its registers, its keys and what it seals, the commands over them, and
+//! the law that keeping digests of what was hashed answers as keeping all of it does.
 #![tactic(auto)]
 
+mod blob_laws;
+mod blobs;
 mod device;
+mod faults;
+mod keys;
 mod laws;
 
-pub use device::{Device, RegisterFault};
+pub use blob_laws::{blob_law, opening_law};
+pub use blobs::{BLOB_ROOM, LONGEST_SEALED, blob_counter};
+pub use device::Device;
+pub use faults::{Provisioned, RegisterFault, SealFault, UnsealFault};
 pub use laws::{
-    clean_runs_agree, clean_values_are_apart, commands_and_the_fuse, commands_by_registers,
-    digested_is_a_homomorphism, fair_plans_agree, ledger_has_what_is_known,
+    clean_runs_agree, clean_values_are_apart, commands_and_the_fuse, commands_by_keys,
+    commands_by_registers, digested_is_a_homomorphism, fair_plans_agree, ledger_has_what_is_known,
 };

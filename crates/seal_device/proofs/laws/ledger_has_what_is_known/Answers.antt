@@ -1,4 +1,4 @@
-use Rattle.seal_device.proofs.Known.{stays_noted, known_after}
+use Rattle.seal_device.proofs.Known.{stays_noted, known_after, blank_noted}
 use Rattle.seal_device.proofs.Plans.{plan_noted}
 use Rattle.seal_device.proofs.laws.ledger_has_what_is_known.Goals as goal
 
@@ -10,3 +10,6 @@ returns-clause-plan g c = λ plan before known. plan_noted plan before known
 
 pub returns-clause-only : goal.returns-clause-only
 returns-clause-only g c = λ command d count. known_after command d count
+
+pub returns-clause-blank : goal.returns-clause-blank
+returns-clause-blank g c = blank_noted

@@ -1,0 +1,3 @@
+-- why a seed is not taken
+pub data Refusal : Type 0 where
+  Provisioned : Refusal

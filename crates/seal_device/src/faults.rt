@@ -1,0 +1,46 @@
+// Why a call failed, with the number of each fault.
+
+/// A seed was not taken: the device has one.
+#[derive(Clone, Copy, Debug, PartialEq, Eq)]
+pub struct Provisioned;
+
+/// Why a register was neither extended nor read, with the number of the fault.
+#[derive(Clone, Copy, Debug, PartialEq, Eq)]
+pub enum RegisterFault {
+    /// There is no register of this number.
+    NoRegister = 1,
+    /// The power was lost before the step.
+    PowerLost = 5,
+}
+
+/// Why bytes were not sealed, with the number of the fault. After lost power the order of trial is
+/// that of the list.
+#[derive(Clone, Copy, Debug, PartialEq, Eq)]
+pub enum SealFault {
+    /// The device has no seed.
+    Unprovisioned = 6,
+    /// There are more than 2,048 bytes.
+    TooLong = 1,
+    /// The counter is not in use.
+    NoCounter = 2,
+    /// The next serial is 2^64 - 1, which no record gets.
+    SerialEnd = 4,
+    /// The power was lost before the step.
+    PowerLost = 5,
+}
+
+/// Why a blob was not unsealed, with the number of the fault. After lost power the order of trial
+/// is that of the list.
+#[derive(Clone, Copy, Debug, PartialEq, Eq)]
+pub enum UnsealFault {
+    /// The device has no seed.
+    Unprovisioned = 6,
+    /// The bytes have not the form and the tag of a blob of this device.
+    NotBlob = 1,
+    /// Register 17 has another value than at the sealing.
+    WrongChain = 2,
+    /// The blob bears a counter that is not in use.
+    WrongCounter = 3,
+    /// The power was lost before the step.
+    PowerLost = 5,
+}
