@@ -111,7 +111,7 @@ fair_law c w v fair agree =
           )
 
 -- a fair plan ends alike on both
-fair_run : {X : Type 0} (plan : Plan Command Reply X)
+pub fair_run : {X : Type 0} (plan : Plan Command Reply X)
     (w : ListDevice × Ledger) (v : DigestDevice × Ledger) → FairPlan plan v → Agrees w v →
     EndAlike Agrees (run (noted lists) plan w) (run (noted digests) plan v)
 fair_run plan w v fair agree =

@@ -44,6 +44,14 @@ pub fn blob_counter(blob: &[u8]) -> Option<u8>
     }
 }
 
+/// How many bytes the blob of so many bytes has.
+pub fn blob_size(len: usize) -> usize
+    requires { len ≤ LONGEST_SEALED }
+    ensures { result ≡ blob_size len }
+{
+    HEAD_LEN + len + TAG_LEN
+}
+
 // The head of the blob of a record that bears no counter.
 #[tactic(auto, unfolding(crate::specs::Blobs::head))]
 fn head_of(serial: u64, chain: &[u8; 20], bytes: &[u8]) -> [u8; HEAD_LEN]
@@ -233,7 +241,7 @@ pub(crate) fn seal_into(
         (Some (seal digests bytes.now counter d keys.now).1) }
     ensures done { IsOk result ↔ (seal_refusal serial bytes.now counter ≡ None) }
     ensures next { OnOk result (serial < last_serial) }
-    ensures size { IfOk result (λ size. size ≤ blob_size LONGEST_SEALED) }
+    ensures size { IfOk result (λ size. size ≡ blob_size (length bytes.now)) }
 {
     match fault_of_sealing(serial, bytes, counter) {
         Some(fault) => Err(fault),

@@ -145,7 +145,7 @@ impl Device {
             (on_device (ask (Command.Seal bytes.now counter ahead))
             (with_fuse self.old fuse.old.left))
             (with_fuse self.new fuse.new.left) (result, out.new) }
-        ensures size { IfOk result (λ size. size ≤ blob_size LONGEST_SEALED) }
+        ensures size { IfOk result (λ size. size ≡ blob_size (length bytes.now)) }
     {
         if fuse.step().is_err() {
             return Err(SealFault::PowerLost);

@@ -10,7 +10,7 @@ mod keys;
 mod laws;
 
 pub use blob_laws::{blob_law, opening_law};
-pub use blobs::{BLOB_ROOM, LONGEST_SEALED, blob_counter};
+pub use blobs::{BLOB_ROOM, LONGEST_SEALED, blob_counter, blob_size};
 pub use device::Device;
 pub use faults::{Provisioned, RegisterFault, SealFault, UnsealFault};
 pub use laws::{
