@@ -22,7 +22,7 @@ use Rattle.script_text.specs.Seen.{line_fault, IsShortName, HasShortName, HasReg
 use Rattle.script_text.specs.declared.command.Kind.{Kind}
 use Rattle.script_text.specs.declared.command.Kind.TheVariants.{Number, Name, ImageKind, Register, Expression}
 use Rattle.script_text.specs.declared.command.Command.{Command}
-use Rattle.script_text.specs.declared.command.Command.TheVariants.{Extend, Read, Let, Show, Image, Take, Give, Poke, Peek, Dma, SetReg, Regs, Arm, Session, SessionInto}
+use Rattle.script_text.specs.declared.command.Command.TheVariants.{Extend, Read, Let, Show, Image, Take, Give, Poke, Peek, Dma, SetReg, Regs, Arm, Session, SessionInto, Seed, Unseal, UnsealInto}
 use Rattle.script_text.specs.declared.command.TheConstants.{COMMANDS}
 use Rattle.script_text.specs.declared.line.TheConstants.{LONGEST_LINE}
 use Rattle.script_text.specs.declared.line.LineFault.{LineFault}
@@ -59,6 +59,9 @@ listed Regs = record { known = refl; found = refl; plain = λ others. refl }
 listed Arm = record { known = refl; found = refl; plain = λ others. refl }
 listed Session = record { known = refl; found = refl; plain = λ others. refl }
 listed SessionInto = record { known = refl; found = refl; plain = λ others. refl }
+listed Seed = record { known = refl; found = refl; plain = λ others. refl }
+listed Unseal = record { known = refl; found = refl; plain = λ others. refl }
+listed UnsealInto = record { known = refl; found = refl; plain = λ others. refl }
 
 passes : {A : Type 0} (test : A → Bool) (xs : List A) (x : A) → find test xs ≡ Some x
     → test x ≡ true
@@ -274,6 +277,7 @@ request_short : (command : Command) (arguments : Meanings (row command).kinds)
 request_short Let arguments k = k.0
 request_short Image arguments k = k.0
 request_short SessionInto arguments k = k.1.1.1.0
+request_short UnsealInto arguments k = k.1.0
 request_short _ arguments k = tt
 
 request_register : (command : Command) (arguments : Meanings (row command).kinds)

@@ -9,14 +9,15 @@ use Rattle.script_text.specs.declared.line.TheConstants.{LONGEST_LINE}
 use Rattle.script_text.specs.declared.command.Kind.{Kind}
 use Rattle.script_text.specs.declared.command.Kind.TheVariants.{Number, Name, ImageKind, Register, Expression}
 use Rattle.script_text.specs.declared.command.Command.{Command}
-use Rattle.script_text.specs.declared.command.Command.TheVariants.{Extend, Read, Let, Show, Image, Take, Give, Poke, Peek, Dma, SetReg, Regs, Arm, Session, SessionInto}
+use Rattle.script_text.specs.declared.command.Command.TheVariants.{Extend, Read, Let, Show, Image, Take, Give, Poke, Peek, Dma, SetReg, Regs, Arm, Session, SessionInto, Seed, Unseal, UnsealInto}
 
 -- what a line asks for: nothing, to extend a register by a text, to read a register, to bind a name
 -- to a value, to show a value, or to bind a name to the image of some code; of memory to take so
 -- many frames, to give back the span at an address, and from an address on to write bytes, to show
 -- so many, or to have a device write some; and of the processor to set a register, to show all, to
 -- have a device write bytes at a turn of the next session, or to run a session of an image on
--- inputs, and to bind a name, if there is one, to what it puts out
+-- inputs, and to bind a name, if there is one, to what it puts out; and of the sealing device to
+-- give it a seed, or to open a blob, and to bind a name, if there is one, to what was sealed in it
 pub data Request : Type 0 where
   Nothing : Request
   ExtendBy : (r : ℕ) → (text : List Term) → Request
@@ -34,6 +35,8 @@ pub data Request : Type 0 where
   RegsOf : Request
   ArmAt : (turn : ℕ) → (at : ℕ) → (bytes : List Term) → Request
   SessionOf : (image inputs nonce : List Term) → (var : Option (List ℕ)) → Request
+  SeedOf : (seed : List Term) → Request
+  UnsealOf : (blob : List Term) → (var : Option (List ℕ)) → Request
 
 -- ---- words, by their kinds
 
@@ -109,6 +112,9 @@ row Arm = record { word = codes "arm"; kinds = Number ∷ Number ∷ Expression 
 row Session = record { word = codes "session"; kinds = Expression ∷ Expression ∷ Expression ∷ [] }
 row SessionInto =
     record { word = codes "session"; kinds = Expression ∷ Expression ∷ Expression ∷ Name ∷ [] }
+row Seed = record { word = codes "seed"; kinds = Expression ∷ [] }
+row Unseal = record { word = codes "unseal"; kinds = Expression ∷ [] }
+row UnsealInto = record { word = codes "unseal"; kinds = Expression ∷ Name ∷ [] }
 
 -- what a command asks for with these arguments
 abbrev pub request : (command : Command) → Meanings (row command).kinds → Request
@@ -128,6 +134,9 @@ request Arm (turn, (at, (bytes, _))) = ArmAt turn at bytes
 request Session (image, (inputs, (nonce, _))) = SessionOf image inputs nonce None
 request SessionInto (image, (inputs, (nonce, (var, _)))) =
     SessionOf image inputs nonce (Some var)
+request Seed (seed, _) = SeedOf seed
+request Unseal (blob, _) = UnsealOf blob None
+request UnsealInto (blob, (var, _)) = UnsealOf blob (Some var)
 
 -- ---- lines
 

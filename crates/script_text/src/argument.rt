@@ -298,5 +298,16 @@ pub(crate) fn event_of(command: Command, mut arguments: Arguments) -> Event
             nonce: arguments.expression(),
             var: Some(arguments.name()),
         },
+        Command::Seed => Event::Seed {
+            seed: arguments.expression(),
+        },
+        Command::Unseal => Event::Unseal {
+            blob: arguments.expression(),
+            var: None,
+        },
+        Command::UnsealInto => Event::Unseal {
+            blob: arguments.expression(),
+            var: Some(arguments.name()),
+        },
     }
 }

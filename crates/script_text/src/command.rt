@@ -39,10 +39,13 @@ pub(crate) enum Command {
     Arm,
     Session,
     SessionInto,
+    Seed,
+    Unseal,
+    UnsealInto,
 }
 
 /// All of them.
-pub(crate) const COMMANDS: [Command; 15] = [
+pub(crate) const COMMANDS: [Command; 18] = [
     Command::Extend,
     Command::Read,
     Command::Let,
@@ -58,6 +61,9 @@ pub(crate) const COMMANDS: [Command; 15] = [
     Command::Arm,
     Command::Session,
     Command::SessionInto,
+    Command::Seed,
+    Command::Unseal,
+    Command::UnsealInto,
 ];
 
 /// The most arguments that a command has.
@@ -113,6 +119,9 @@ impl Command {
                     Kind::Name,
                 ],
             ),
+            Command::Seed => (b"seed", &[Kind::Expression]),
+            Command::Unseal => (b"unseal", &[Kind::Expression]),
+            Command::UnsealInto => (b"unseal", &[Kind::Expression, Kind::Name]),
         };
         Row { word, kinds }
     }

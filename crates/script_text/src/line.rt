@@ -99,6 +99,15 @@ pub enum Event {
         nonce: Expr,
         var: Option<Bytes>,
     },
+    /// To give the device a seed, from which it derives its keys.
+    Seed {
+        seed: Expr,
+    },
+    /// To open a blob, and to bind a name, if there is one, to the bytes that were sealed in it.
+    Unseal {
+        blob: Expr,
+        var: Option<Bytes>,
+    },
 }
 
 /// The first thing that is wrong with a line, in the order of the checks. Of the words of one line,

@@ -78,6 +78,16 @@ fn of_event(event: &Event) -> Asked<'_> {
             },
             value: Some(image),
         },
+        Event::Seed { seed } => of_value("seed", 0, seed),
+        Event::Unseal { blob, var } => Asked {
+            command: "unseal",
+            numbers: [0, 0, 0],
+            name: match var {
+                Some(name) => name.as_slice(),
+                None => b"",
+            },
+            value: Some(blob),
+        },
     }
 }
 
@@ -113,7 +123,7 @@ fn is_row(alloc: Global, row: &Row) -> bool {
 
 #[test]
 fn good_lines(rt: HostRuntime) {
-    let rows: [Row; 38] = [
+    let rows: [Row; 41] = [
         ("", "", [0, 0, 0], "", &[]),
         (" \t ", "", [0, 0, 0], "", &[]),
         ("\r", "", [0, 0, 0], "", &[]),
@@ -158,6 +168,9 @@ fn good_lines(rt: HostRuntime) {
         ("arm 1 2 x:00", "arm", [1, 2, 0], "", &[0]),
         ("session x:01 x:02 x:03", "session", [0, 0, 0], "", &[1]),
         ("session x:01 x: x: out", "session", [0, 0, 0], "out", &[1]),
+        ("seed rep:5a*3", "seed", [0, 0, 0], "", &[90, 90, 90]),
+        ("unseal x:0102", "unseal", [0, 0, 0], "", &[1, 2]),
+        ("unseal x: secret\r", "unseal", [0, 0, 0], "secret", &[]),
     ];
     for (i, row) in rows.iter().enumerate() {
         assert!(rt; is_row(rt.alloc(), row), "row {i}");
@@ -224,7 +237,7 @@ fn is_bad(alloc: Global, line: &[u8], fault: LineFault) -> bool {
 
 #[test]
 fn bad_lines(rt: HostRuntime) {
-    let rows: [(&str, LineFault); 44] = [
+    let rows: [(&str, LineFault); 50] = [
         ("read 1\x01", LineFault::Byte),
         ("read 1\r\r", LineFault::Byte),
         ("# \x7f", LineFault::Byte),
@@ -269,6 +282,12 @@ fn bad_lines(rt: HostRuntime) {
         ("arm 1 x: y:", LineFault::Number),
         ("session x: x: 9 9", LineFault::Expression),
         ("session x: x: x: 9", LineFault::Name),
+        ("seed", LineFault::Count),
+        ("seed x: v", LineFault::Count),
+        ("unseal", LineFault::Count),
+        ("unseal x: v w", LineFault::Count),
+        ("unseal 01 9", LineFault::Expression),
+        ("unseal x: 9", LineFault::Name),
     ];
     for (i, (line, fault)) in rows.iter().enumerate() {
         assert!(rt; is_bad(rt.alloc(), line.as_bytes(), *fault), "row {i}");

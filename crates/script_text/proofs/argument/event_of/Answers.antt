@@ -49,9 +49,19 @@ returns-in-Session c =
     let nonce = c.expression-in-Session-3.ensures in
     rw (c.in-Session.is, image, inputs, nonce) refl
 
-pub returns : goal.returns
-returns c =
+pub returns-in-SessionInto : goal.returns-in-SessionInto
+returns-in-SessionInto c =
     let image = c.expression-in-SessionInto.ensures in
     let inputs = c.expression-in-SessionInto-2.ensures in
     let nonce = c.expression-in-SessionInto-3.ensures in
     rw (c.in-SessionInto.is, image, inputs, nonce, c.name-in-SessionInto.ensures) refl
+
+pub returns-in-Seed : goal.returns-in-Seed
+returns-in-Seed c = rw (c.in-Seed.is, c.expression-in-Seed.ensures) refl
+
+pub returns-in-Unseal : goal.returns-in-Unseal
+returns-in-Unseal c = rw (c.in-Unseal.is, c.expression-in-Unseal.ensures) refl
+
+pub returns : goal.returns
+returns c =
+    rw (c.in-UnsealInto.is, c.expression-in-UnsealInto.ensures, c.name-in-UnsealInto.ensures) refl
