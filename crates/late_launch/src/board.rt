@@ -1,10 +1,10 @@
 //! The board.
-ghost use Rattle.std.specs.Prelude.{◌≡◌, ◌++◌, IfOk};
+ghost use Rattle.std.specs.Prelude.{◌≡◌, ◌≤◌, ◌++◌, IfOk, Some};
 ghost use Rattle.flk_base.specs.Plan.{ask};
-ghost use Rattle.flk_base.specs.Stop.{Ends, reported};
-ghost use Rattle.seal_device.specs.Commands.{Command};
-ghost use Rattle.seal_device.specs.Digests.{on_device};
-ghost use Rattle.seal_device.specs.Faults.{register_fault};
+ghost use Rattle.flk_base.specs.Stop.{Ends, reported, reported_into};
+ghost use Rattle.seal_device.specs.Commands.{Command, act};
+ghost use Rattle.seal_device.specs.Digests.{digests, on_device};
+ghost use Rattle.seal_device.specs.Faults.{provisioned, register_fault, unseal_fault};
 ghost use Rattle.machine_memory.specs.Areas.{IsArea};
 ghost use Rattle.late_launch.specs.Boards.{blank_board, zero_registers, fused_device, fallen};
 
@@ -14,7 +14,7 @@ use flk_base::{Fuse, NoMemory};
 use i386_profile::Cpu;
 use machine_memory::Memory;
 use region_pool::Ticket;
-use seal_device::{Device, RegisterFault};
+use seal_device::{Device, LONGEST_SEALED, Provisioned, RegisterFault, UnsealFault};
 use std::alloc::Global;
 use std::marker::Model;
 
@@ -113,6 +113,43 @@ impl Board {
         ensures registers { self.new.registers ≡ self.old.registers }
     {
         self.device.read_register(r, &mut self.fuse)
+    }
+
+    /// Takes a seed of any length, from which the device derives its keys. It takes no step of the fuse.
+    ///
+    /// # Errors
+    ///
+    /// Where the device has a seed, and nothing changes.
+    pub fn provision(&mut self, seed: &[u8]) -> Result<(), Provisioned>
+        ensures ends { let end = act digests (Command.Provision seed.now) self.old.device in
+            Ends (reported provisioned (record {})) (end.0, Some end.1) self.new.device result }
+        ensures others { self.new ≡ record self.old { device = self.new.device } }
+    {
+        self.device.provision(seed)
+    }
+
+    /// Unseals a blob, in one step of the fuse: the bytes that were sealed stand in the first bytes of `out`, and
+    /// how many they are is answered.
+    ///
+    /// # Errors
+    ///
+    /// `PowerLost` where the fuse has no step left, and nothing changes; else, with the step taken and `out` as it
+    /// was, `Unprovisioned` where the device has no seed, `NotBlob` where the bytes are no blob of this device,
+    /// `WrongChain` where register 17 has another value than at the sealing, `WrongCounter` where the blob bears a
+    /// counter that is not in use.
+    pub fn unseal(
+        &mut self,
+        blob: &[u8],
+        out: &mut [u8; LONGEST_SEALED],
+    ) -> Result<usize, UnsealFault>
+        ensures ends { Ends (reported_into out.old unseal_fault UnsealFault.PowerLost)
+            (on_device (ask (Command.Unseal blob.now)) (fused_device self.old))
+            (fused_device self.new) (result, out.new) }
+        ensures memory { self.new.memory ≡ self.old.memory }
+        ensures registers { self.new.registers ≡ self.old.registers }
+        ensures size { IfOk result (λ size. size ≤ LONGEST_SEALED) }
+    {
+        self.device.unseal(blob, out, &mut self.fuse)
     }
 
     /// The host stands still, and its registers are saved; `area` is where a session is to run.

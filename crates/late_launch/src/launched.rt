@@ -1,16 +1,17 @@
 //! A session that runs.
-ghost use Rattle.std.specs.Prelude.{◌≡◌, ◌≤◌, ◌+◌, ◌++◌, [], ◌∷◌, length, map, true, Some};
+ghost use Rattle.std.specs.Prelude.{◌≡◌, ◌≤◌, ◌+◌, ◌++◌, [], ◌∷◌, length, map, true, Some, IfOk};
 ghost use Rattle.std.specs.Borrow.{sem};
 ghost use Rattle.flk_base.specs.Plan.{ask};
-ghost use Rattle.flk_base.specs.Stop.{Ends, or_lost, reported};
+ghost use Rattle.flk_base.specs.Stop.{Ends, or_lost, reported, reported_into};
 ghost use Rattle.slb_image.specs.Image.{IsImageOf};
 ghost use Rattle.machine_memory.specs.Writes.{written, part};
 ghost use Rattle.machine_memory.specs.Contents.{first_byte};
 ghost use Rattle.machine_memory.specs.Areas.{IsArea, region_frames, guarded};
 ghost use Rattle.machine_memory.specs.ArmedWrites.{ended_by};
+ghost use Rattle.seal_device.specs.Blobs.{blob_size};
 ghost use Rattle.seal_device.specs.Commands.{Command};
 ghost use Rattle.seal_device.specs.Digests.{on_device};
-ghost use Rattle.seal_device.specs.Faults.{power_lost, register_fault};
+ghost use Rattle.seal_device.specs.Faults.{power_lost, register_fault, seal_fault, unseal_fault};
 ghost use Rattle.late_launch.specs.Regions.{around, region_bytes, around_after_turn, input_page, inputs_offset, page, with_outputs, IsGuarded};
 ghost use Rattle.late_launch.specs.Ends.{end_byte, IsEndOf, closing, extend_each};
 ghost use Rattle.late_launch.specs.States.{has_image, image_in, session_device, lost};
@@ -26,7 +27,7 @@ use flk_base::{Fuse, PowerLost};
 use i386_profile::Cpu;
 use machine_memory::{Dma, Memory, NotTaken, frame_law};
 use region_pool::Ticket;
-use seal_device::{Device, RegisterFault};
+use seal_device::{BLOB_ROOM, Device, LONGEST_SEALED, RegisterFault, SealFault, UnsealFault};
 use slb_image::ImageView;
 use std::marker::Model;
 
@@ -227,6 +228,50 @@ impl Launched {
         ensures others { self.new ≡ record self.old { device = self.new.device; fuse = self.new.fuse } }
     {
         self.device.read_register(r, &mut self.fuse)
+    }
+
+    /// Seals bytes in register 17's present value, in one step of the fuse: their blob stands in the first bytes of
+    /// `out`, and its length is answered.
+    ///
+    /// # Errors
+    ///
+    /// `PowerLost` where the fuse has no step left, and nothing changes; else, with the step taken and `out` as it
+    /// was, `Unprovisioned` where the device has no seed, `TooLong` past 2,048 bytes, `NoCounter` where a counter is
+    /// asked for that is not in use, `SerialEnd` where the next serial is 2^64 - 1.
+    pub fn seal(
+        &mut self,
+        bytes: &[u8],
+        counter: Option<u8>,
+        ahead: bool,
+        out: &mut [u8; BLOB_ROOM],
+    ) -> Result<usize, SealFault>
+        ensures ends { Ends (reported_into out.old seal_fault SealFault.PowerLost)
+            (on_device (ask (Command.Seal bytes.now counter ahead)) (session_device self.old))
+            (session_device self.new) (result, out.new) }
+        ensures others { self.new ≡ record self.old { device = self.new.device; fuse = self.new.fuse } }
+        ensures size { IfOk result (λ size. size ≡ blob_size (length bytes.now)) }
+    {
+        self.device.seal(bytes, counter, ahead, out, &mut self.fuse)
+    }
+
+    /// Unseals a blob, in one step of the fuse: the bytes that were sealed stand in the first bytes of `out`, and
+    /// how many they are is answered.
+    ///
+    /// # Errors
+    ///
+    /// Those of `Board::unseal`.
+    pub fn unseal(
+        &mut self,
+        blob: &[u8],
+        out: &mut [u8; LONGEST_SEALED],
+    ) -> Result<usize, UnsealFault>
+        ensures ends { Ends (reported_into out.old unseal_fault UnsealFault.PowerLost)
+            (on_device (ask (Command.Unseal blob.now)) (session_device self.old))
+            (session_device self.new) (result, out.new) }
+        ensures others { self.new ≡ record self.old { device = self.new.device; fuse = self.new.fuse } }
+        ensures size { IfOk result (λ size. size ≤ LONGEST_SEALED) }
+    {
+        self.device.unseal(blob, out, &mut self.fuse)
     }
 
     /// Extends register 17 by the text that `front` and `text` are together, in one step of the fuse.
