@@ -1,15 +1,20 @@
 -- What a turn comes to, and the services that launched code calls by `int 0x80`.
-use Rattle.std.specs.Prelude.{ℕ, ◌+◌, ◌==◌, nat_le, Bool, List, [], ◌++◌, codes, Option, Some, None, Result, Ok, Err, if◌then◌else◌}
+use Rattle.std.specs.Prelude.{ℕ, ◌+◌, ◌-◌, ◌^◌, ◌==◌, nat_le, nat_lt, Bool, true, false, List, [], ◌++◌, length, codes, Option, Some, None, Result, Ok, Err, if◌then◌else◌}
 use Rattle.flk_base.specs.Plan.{Plan, Return, Ask}
-use Rattle.i386_profile.specs.declared.operands.Reg.TheVariants.{Eax, Ecx, Ebx, Edi}
+use Rattle.i386_profile.specs.declared.operands.Reg.TheVariants.{Eax, Ecx, Edx, Ebx, Edi}
 use Rattle.i386_profile.specs.declared.cpu.FaultKind.TheVariants.{Instruction, Segment}
 use Rattle.i386_profile.specs.Flags.{get}
 use Rattle.i386_profile.specs.Effects.{State, Outcome, GoesOn, CallsGate, Faults, with_reg}
 use Rattle.machine_memory.specs.Writes.{part, written}
-use Rattle.seal_device.specs.Commands.{Command, Extend, ReadRegister, Reply, launch_register}
+use Rattle.seal_device.specs.Sealed.{longest_sealed}
+use Rattle.seal_device.specs.Blobs.{blob_size}
+use Rattle.seal_device.specs.Commands.{Command, Extend, ReadRegister, Seal, Unseal, Reply, launch_register}
 use Rattle.seal_device.specs.Refusals.Register as registers
+use Rattle.seal_device.specs.Refusals.Seal as seals
+use Rattle.seal_device.specs.Refusals.Unseal as unseals
 use Rattle.late_launch.specs.declared.ends.End.{End}
 use Rattle.late_launch.specs.declared.ends.End.TheVariants.{Done, Fault}
+use Rattle.slb_core.specs.declared.sealing.CounterAsked.{CounterAsked}
 use Rattle.slb_core.specs.Turns.{executed}
 
 -- what a turn comes to: the next turn, from this state, or the session's end, with these outputs
@@ -73,17 +78,91 @@ to_read s =
     then Ask (ReadRegister (get s.cpu Ebx)) (λ reply. Return (Next (shown s reply)))
     else Return fault_segment
 
+-- bytes at edi, and in ecx how many they are
+abbrev pub handed : State → List ℕ → State
+handed s bytes =
+    with_reg (answered (record s { bytes = written s.bytes (get s.cpu Edi) bytes }) 0) Ecx (length bytes)
+
+-- the counter that a number asks for: none by 2^32 - 1, the counter of this number up to 255, and from 256 to 511
+-- the one of the number past 256, for its next value; by any other number one that there can't be
+abbrev pub counter_asked : ℕ → Option CounterAsked
+counter_asked number =
+    if number == 2 ^ 32 - 1 then Some (record { id = None; ahead = false })
+    else if nat_lt number 256 then Some (record { id = Some number; ahead = false })
+    else if nat_lt number 512 then Some (record { id = Some (number - 256); ahead = true })
+    else None
+
+-- the number of each refusal to seal
+abbrev pub seal_number : seals.Refusal → ℕ
+seal_number seals.TooLong = 1
+seal_number seals.NoCounter = 2
+seal_number seals.SerialEnd = 4
+seal_number seals.Unprovisioned = 6
+
+-- the blob, or the refusal's number
+abbrev pub sealed : State → Result (List ℕ) seals.Refusal → State
+sealed s (Ok blob) = handed s blob
+sealed s (Err refusal) = answered s (seal_number refusal)
+
+-- to seal the bytes at ebx, ecx of them, by the counter that is asked for
+abbrev pub to_seal_by : State → Option CounterAsked → Plan Command Reply TurnEnd
+to_seal_by s None = Return (Next (answered s (seal_number seals.NoCounter)))
+to_seal_by s (Some asked) =
+    if lies_in (get s.cpu Edi) (blob_size (get s.cpu Ecx))
+    then Ask (Seal (part s.bytes (get s.cpu Ebx) (get s.cpu Ecx)) asked.id asked.ahead)
+    (λ reply. Return (Next (sealed s reply)))
+    else Return fault_segment
+
+-- to seal: the bytes lie at ebx, ecx of them, edx asks for a counter, and the blob comes to edi
+abbrev pub to_seal : State → Plan Command Reply TurnEnd
+to_seal s =
+    if lies_in (get s.cpu Ebx) (get s.cpu Ecx)
+    then if nat_le (get s.cpu Ecx) longest_sealed
+    then to_seal_by s (counter_asked (get s.cpu Edx))
+    else Return (Next (answered s (seal_number seals.TooLong)))
+    else Return fault_segment
+
+-- how many bytes may be shown as a blob
+abbrev pub longest_shown : ℕ
+longest_shown = 4096
+
+-- the number of each refusal to unseal
+abbrev pub unseal_number : unseals.Refusal → ℕ
+unseal_number unseals.NotBlob = 1
+unseal_number unseals.WrongChain = 2
+unseal_number unseals.WrongCounter = 3
+unseal_number unseals.Unprovisioned = 6
+
+-- the bytes that were sealed, or the refusal's number
+abbrev pub opened : State → Result (List ℕ) unseals.Refusal → TurnEnd
+opened s (Ok bytes) =
+    if lies_in (get s.cpu Edi) (length bytes) then Next (handed s bytes) else fault_segment
+opened s (Err refusal) = Next (answered s (unseal_number refusal))
+
+-- to unseal: the blob lies at ebx, ecx bytes of it, and what was sealed in it comes to edi
+abbrev pub to_unseal : State → Plan Command Reply TurnEnd
+to_unseal s =
+    if lies_in (get s.cpu Ebx) (get s.cpu Ecx)
+    then if nat_le (get s.cpu Ecx) longest_shown
+    then Ask (Unseal (part s.bytes (get s.cpu Ebx) (get s.cpu Ecx))) (λ reply. Return (opened s reply))
+    else Return (Next (answered s (unseal_number unseals.NotBlob)))
+    else Return fault_segment
+
 -- the services, by their numbers
 pub data Service : Type 0 where
   ToEnd : Service
   ToExtend : Service
   ToRead : Service
+  ToSeal : Service
+  ToUnseal : Service
 
 abbrev pub service_of : ℕ → Option Service
 service_of number =
     if number == 0 then Some ToEnd
     else if number == 1 then Some ToExtend
     else if number == 2 then Some ToRead
+    else if number == 3 then Some ToSeal
+    else if number == 4 then Some ToUnseal
     else None
 
 -- what a service comes to
@@ -91,6 +170,8 @@ abbrev pub comes_to : Option Service → State → Plan Command Reply TurnEnd
 comes_to (Some ToEnd) s = Return (to_end s)
 comes_to (Some ToExtend) s = to_extend s
 comes_to (Some ToRead) s = to_read s
+comes_to (Some ToSeal) s = to_seal s
+comes_to (Some ToUnseal) s = to_unseal s
 comes_to None s = Return fault_instruction
 
 -- ---- turns

@@ -3,6 +3,7 @@
 
 mod laws;
 mod pal;
+mod sealing;
 mod services;
 mod serving;
 mod spans;

@@ -6,6 +6,7 @@ ghost use Rattle.late_launch.specs.States.{session_device};
 ghost use Rattle.slb_core.specs.Services.{to_extend, to_read, service_of, comes_to, gate, turn};
 ghost use Rattle.slb_core.specs.Reports.{TurnEnds};
 
+use crate::sealing::{to_seal, to_unseal};
 use crate::spans::{lies_in, read_span, write_span};
 use crate::turn::{SEGMENT_SIZE, execute};
 use flk_base::PowerLost;
@@ -121,6 +122,8 @@ fn serve_gate(
         0 => return Ok(to_end(session, cpu, outputs)),
         1 => return to_extend(session, cpu, outputs),
         2 => return to_read(session, cpu, outputs),
+        3 => return to_seal(session, cpu, outputs),
+        4 => return to_unseal(session, cpu, outputs),
         _ => return Ok(Turned::Over(End::Fault(FaultKind::Instruction))),
     }
 }
