@@ -113,7 +113,7 @@ one_more k lines line request count none h =
 
 -- ---- transcripts
 
-pub transcript-append : {H : Type 0} (R : Rules H) (n : ℕ) (rs qs : List Request) (p : Platform H)
+pub transcript-append : {H M : Type 0} (R : Rules H M) (n : ℕ) (rs qs : List Request) (p : Platform H M)
     → transcript R n (rs ++ qs) p ≡ transcript R n rs p
     ++ transcript R (n + length rs) qs (after_all R rs p)
 transcript-append R n [] qs p = let e : n ≡ n + 0 = omega arith in ap (λ k. transcript R k qs p) e
@@ -126,7 +126,7 @@ transcript-append R n (r ∷ rs) qs p =
     ∙ sym (append_assoc (transcript_line R n r p) (transcript R (n + 1) rs (after R r p))
     (transcript R (n + suc (length rs)) qs (after_all R rs (after R r p))))
 
-pub after_all-append : {H : Type 0} (R : Rules H) (rs qs : List Request) (p : Platform H)
+pub after_all-append : {H M : Type 0} (R : Rules H M) (rs qs : List Request) (p : Platform H M)
     → after_all R (rs ++ qs) p ≡ after_all R qs (after_all R rs p)
 after_all-append R [] qs p = refl
 after_all-append R (r ∷ rs) qs p = after_all-append R rs qs (after R r p)

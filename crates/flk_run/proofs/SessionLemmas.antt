@@ -178,7 +178,7 @@ module _ (p : HostMemory) (m : Contents) (first : ℕ) (stands : MemoryStands p 
 -- ---- a task that may be stopped
 
 -- how a task that ended so on a device with a fuse is settled
-abbrev settled : SimDisk → Around → Fused DigestDevice × Option (Around × Answer) → DigestPlatform × Answer
+abbrev pub settled : SimDisk → Around → Fused DigestDevice × Option (Around × Answer) → DigestPlatform × Answer
 settled disk w (left, Some done) =
     (record { device = left.state; disk = disk; around = done.0; fuse = left.fuse }, done.1)
 settled disk w (left, None) = (
@@ -192,7 +192,7 @@ settled_so disk w (device, (left, Some done)) = refl
 settled_so disk w (device, (left, None)) = refl
 
 -- it is what the plan comes to
-stop_settled : (disk : SimDisk) (w : Around) (plan : Plan Command Reply (Around × Answer)) (before : Fused DigestDevice)
+pub stop_settled : (disk : SimDisk) (w : Around) (plan : Plan Command Reply (Around × Answer)) (before : Fused DigestDevice)
     → after_outcome disk (run (act digests) (with_stop w before.fuse plan) before.state)
     ≡ settled disk w (on_device plan before)
 stop_settled disk w plan before =

@@ -7,6 +7,8 @@ use Rattle.seal_device.specs.Rules.{Device, Rules}
 use Rattle.seal_device.specs.Commands as command
 use Rattle.seal_device.specs.Commands.{Command, Reply, costs, act}
 use Rattle.seal_device.specs.Refusals.Register as registers
+use Rattle.seal_device.specs.Refusals.Seed as seeds
+use Rattle.seal_device.specs.Refusals.Unseal as unseals
 use Rattle.script_text.specs.Grammar.{Request}
 use Rattle.slb_image.specs.Faults.{image_fault}
 use Rattle.machine_memory.specs.Contents.{first_byte, frame_of}
@@ -18,12 +20,12 @@ use Rattle.session_driver.specs.Sessions.{area_frames, area_alignment, setting_w
 use Rattle.session_driver.specs.Answers as session
 use Rattle.session_driver.specs.Answers.{Course, IsRefused, RunsAt, course_at}
 use Rattle.flk_run.specs.declared.answers.Refusal.{Refusal}
-use Rattle.flk_run.specs.declared.answers.Refusal.TheVariants.{NoRegister, NoImage, NoRoom, NoSpan, NoTaken, NoBlocked, NoInput, NoPlace, PowerLost}
+use Rattle.flk_run.specs.declared.answers.Refusal.TheVariants.{NoRegister, NoImage, NoRoom, NoSpan, NoTaken, NoBlocked, NoInput, NoPlace, NoSeeded, NoSeed, NoBlob, NoChain, NoCounter, PowerLost}
 use Rattle.flk_run.specs.declared.disk.SimDisk.{SimDisk}
 use Rattle.flk_run.specs.Answers.{SessionOver, Answer, Quiet, Done, Counts, Shows, Registers, Ended, Refused, line_of}
 use Rattle.machine_memory.specs.HostMemory.{HostMemory, HostSpan, is_taken, place, starts_at, are_taken, are_open, with_span, without_span, with_bytes}
 use Rattle.flk_run.specs.Platform.{Around, Platform, with_name, with_name_if, with_register, with_armed, with_memory, after_power_on}
-use Rattle.flk_run.specs.Tasks.{Task, Rest, Refuse, Extend, Read, Bind, Show, BindImage, Take, Give, Poke, Peek, Dma, SetRegister, ShowRegisters, Arm, RunSession, task_of}
+use Rattle.flk_run.specs.Tasks.{Task, Rest, Refuse, Extend, Read, Bind, Show, BindImage, Take, Give, Poke, Peek, Dma, SetRegister, ShowRegisters, Arm, RunSession, Seed, Unseal, task_of}
 
 -- ---- what memory is after an event, and the answer
 
@@ -132,6 +134,23 @@ abbrev pub read_answer : Result (List ℕ) registers.Refusal → Answer
 read_answer (Ok value) = Shows value
 read_answer (Err registers.NoRegister) = Refused NoRegister
 
+-- what is answered to a seed
+abbrev pub seed_answer : Result (Unit {0}) seeds.Refusal → Answer
+seed_answer (Ok done) = Done
+seed_answer (Err seeds.Provisioned) = Refused NoSeeded
+
+-- what is answered where a blob is not unsealed
+abbrev pub unseal_refusal : unseals.Refusal → Refusal
+unseal_refusal unseals.Unprovisioned = NoSeed
+unseal_refusal unseals.NotBlob = NoBlob
+unseal_refusal unseals.WrongChain = NoChain
+unseal_refusal unseals.WrongCounter = NoCounter
+
+-- what was unsealed is shown, and the name is bound to it, where there is one
+abbrev pub after_unseal : Option (List ℕ) → Result (List ℕ) unseals.Refusal → Around → Around × Answer
+after_unseal var (Ok bytes) w = (with_name_if var bytes w, Shows bytes)
+after_unseal var (Err refusal) w = (w, Refused (unseal_refusal refusal))
+
 -- one command, and the answer to its reply; what is around stays
 abbrev pub answering : (c : Command) → (Reply c → Answer) → Around
     → Plan Command Reply (Around × Answer)
@@ -160,6 +179,8 @@ plan_of ShowRegisters w = Return (w, Registers w.registers.regs)
 plan_of (Arm turn at bytes) w = Return (with_armed turn at bytes w, Done)
 plan_of (RunSession image inputs nonce var) w =
     session_task (course_around w.memory image inputs) image inputs nonce var w
+plan_of (Seed seed) w = answering (command.Provision seed) seed_answer w
+plan_of (Unseal blob var) w = ask (command.Unseal blob) >>= λ reply. Return (after_unseal var reply w)
 
 -- ---- events
 
@@ -186,35 +207,35 @@ abbrev pub event : Around → Limit → Request → Plan Command Reply Outcome
 event w fuse request = with_stop w fuse (plan_of (task_of request w.variables) w)
 
 -- the platform after an outcome, beside this disk, and the answer
-abbrev pub after_outcome : {H : Type 0} → SimDisk → Device H × Outcome → Platform H × Answer
+abbrev pub after_outcome : {H M : Type 0} → SimDisk → Device H M × Outcome → Platform H M × Answer
 after_outcome disk end =
     (record { device = end.0; disk = disk; around = end.1.around; fuse = end.1.fuse }, end.1.answer)
 
 -- a task on a platform
-abbrev pub task_step : {H : Type 0} → Rules H → Task → Platform H → Platform H × Answer
+abbrev pub task_step : {H M : Type 0} → Rules H M → Task → Platform H M → Platform H M × Answer
 task_step R task p =
     after_outcome p.disk (run (act R) (with_stop p.around p.fuse (plan_of task p.around)) p.device)
 
 -- an event on a platform
-abbrev pub step : {H : Type 0} → Rules H → Request → Platform H → Platform H × Answer
+abbrev pub step : {H M : Type 0} → Rules H M → Request → Platform H M → Platform H M × Answer
 step R request p = after_outcome p.disk (run (act R) (event p.around p.fuse request) p.device)
 
 -- the platform after an event
-abbrev pub after : {H : Type 0} → Rules H → Request → Platform H → Platform H
+abbrev pub after : {H M : Type 0} → Rules H M → Request → Platform H M → Platform H M
 after R request p = (step R request p).0
 
 -- line n of the transcript, for an event
-abbrev pub transcript_line : {H : Type 0} → Rules H → ℕ → Request → Platform H → List ℕ
+abbrev pub transcript_line : {H M : Type 0} → Rules H M → ℕ → Request → Platform H M → List ℕ
 transcript_line R n request p = line_of n (step R request p).1
 
 -- what events write, the first of them at line n
-abbrev pub transcript : {H : Type 0} → Rules H → ℕ → List Request → Platform H → List ℕ
+abbrev pub transcript : {H M : Type 0} → Rules H M → ℕ → List Request → Platform H M → List ℕ
 transcript R n [] p = []
 transcript R n (request ∷ requests) p =
     transcript_line R n request p ++ transcript R (n + 1) requests (after R request p)
 
 -- the platform after events
-abbrev pub after_all : {H : Type 0} → Rules H → List Request → Platform H → Platform H
+abbrev pub after_all : {H M : Type 0} → Rules H M → List Request → Platform H M → Platform H M
 after_all R [] p = p
 after_all R (request ∷ requests) p = after_all R requests (after R request p)
 
@@ -243,6 +264,6 @@ lines_of n [] = []
 lines_of n (answer ∷ answers) = line_of n answer ++ lines_of (n + 1) answers
 
 -- the platform that a script leaves
-abbrev pub after_outcomes : {H : Type 0} → SimDisk → Device H × Outcomes → Platform H
+abbrev pub after_outcomes : {H M : Type 0} → SimDisk → Device H M × Outcomes → Platform H M
 after_outcomes disk end =
     record { device = end.0; disk = disk; around = end.1.around; fuse = end.1.fuse }

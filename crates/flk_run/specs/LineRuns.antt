@@ -27,8 +27,8 @@ pub record EventCut (n : ℕ) (request : Request) (out out' : Option (List ℕ))
   pub at : new ≡ option_map (after digests request) old
 
 -- nothing was done or written
-pub record NotBegun {H : Type 0} (out out' : Option (List ℕ))
-    (old new : Option (Platform H)) : Type 0 where
+pub record NotBegun {H M : Type 0} (out out' : Option (List ℕ))
+    (old new : Option (Platform H M)) : Type 0 where
   pub unwritten : out' ≡ out
   pub kept : new ≡ old
 

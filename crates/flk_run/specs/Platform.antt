@@ -4,6 +4,7 @@ use Rattle.std.specs.Prelude.{ℕ, List, [], ◌∷◌, ◌++◌, Option, Some, 
 use Rattle.std.specs.FinMap.{empty, insert}
 use Rattle.flk_base.specs.Stop.{Limit}
 use Rattle.tpm_state.specs.Chain.{Chain}
+use Rattle.seal_device.specs.Sealed.{Sealed}
 use Rattle.seal_device.specs.Rules.{Device, Rules}
 use Rattle.seal_device.specs.Commands.{blank as unused_device}
 use Rattle.seal_device.specs.Agreement.{digested}
@@ -24,20 +25,21 @@ pub record Around : Type 0 where
   pub armed : List Armed
   pub variables : Table
 
--- a platform, whose device keeps the history of a register as an H; the fuse says how many commands
--- are left before the power is lost
-pub record Platform (H : Type 0) : Type 0 where
-  pub device : Device H
+-- a platform, whose device keeps the history of a register as an H, and of what it sealed an M; the
+-- fuse says how many commands are left before the power is lost
+pub record Platform (H M : Type 0) : Type 0 where
+  pub device : Device H M
   pub disk : SimDisk
   pub around : Around
   pub fuse : Limit
 
--- by lists a register is its start and the texts that extended it, and by digests 20 bytes
+-- by lists a register is its start and the texts that extended it, and by digests 20 bytes; by lists
+-- the records that were sealed are kept, and by digests nothing is
 abbrev pub ListPlatform : Type 0
-ListPlatform = Platform Chain
+ListPlatform = Platform Chain (List (Sealed Chain))
 
 abbrev pub DigestPlatform : Type 0
-DigestPlatform = Platform (List ℕ)
+DigestPlatform = Platform (List ℕ) (Unit {0})
 
 -- the platform by digests that one by lists stands for
 abbrev pub platform_digested : ListPlatform → DigestPlatform
@@ -50,7 +52,7 @@ blank_around =
     record { memory = blank_memory; registers = zero_registers; armed = []; variables = empty }
 
 -- a platform that was never used, beside this disk
-abbrev pub blank : {H : Type 0} → Rules H → SimDisk → Platform H
+abbrev pub blank : {H M : Type 0} → Rules H M → SimDisk → Platform H M
 blank R disk = record { device = unused_device R; disk = disk; around = blank_around; fuse = None }
 
 -- with a name bound to a value
@@ -87,5 +89,5 @@ after_power_on w = record w {
 }
 
 -- the platform without what belongs to the experimenter: no name is bound, and no write armed
-abbrev pub at_rest : {H : Type 0} → Platform H → Platform H
+abbrev pub at_rest : {H M : Type 0} → Platform H M → Platform H M
 at_rest p = record p { around = record p.around { armed = []; variables = empty } }

@@ -1,6 +1,7 @@
 -- How far a run of a script came: what was taken, what was done, and what was written, on a
 -- platform where it is known.
 use Rattle.std.specs.Prelude.{◌≡◌, ◌≢◌, ◌⊎◌, ℕ, ◌+◌, ◌-◌, ◌≤◌, Bool, true, false, List, [], ◌∷◌, ◌++◌, length, Option, Some, None, Ok}
+use Rattle.std.proofs.Common.{inl, inr}
 use Rattle.std.specs.Option.{IfSome, option_map}
 use Rattle.std.specs.Io.KnownBytes.{Appends}
 use Rattle.flk_base.specs.Known.{AppendsPrefix}
@@ -42,15 +43,15 @@ bad_in taken ended = first_bad 1 (script_lines taken ended)
 -- ---- what was done and written
 
 -- the requests are done, and their transcript is written
-pub record Written {H : Type 0} (R : Rules H) (requests : List Request) (out out' : Option (List ℕ))
-    (old new : Option (Platform H)) : Type 0 where
+pub record Written {H M : Type 0} (R : Rules H M) (requests : List Request) (out out' : Option (List ℕ))
+    (old new : Option (Platform H M)) : Type 0 where
   pub written : IfSome old (λ p. Appends out out' (transcript R 1 requests p))
   pub at : new ≡ option_map (after_all R requests) old
 
 -- these requests are done and written, and that of line n is done, of whose transcript line, which
 -- has bytes, not all is written
-pub record LineCut {H : Type 0} (R : Rules H) (n : ℕ) (before : List Request) (request : Request)
-    (out out' : Option (List ℕ)) (old new : Option (Platform H)) : Type 0 where
+pub record LineCut {H M : Type 0} (R : Rules H M) (n : ℕ) (before : List Request) (request : Request)
+    (out out' : Option (List ℕ)) (old new : Option (Platform H M)) : Type 0 where
   pub some : IfSome old (λ p. transcript_line R n request (after_all R before p) ≢ [])
   pub written : IfSome old (λ p. AppendsPrefix out out' (transcript R 1 before p)
       (transcript_line R n request (after_all R before p)))
@@ -71,8 +72,8 @@ pub record Reached (source source' : Option (List ℕ)) : Type 0 where
   pub good : first_bad 1 first ≡ None
   pub near : length (after_lines (length first + 1) taken) ≤ READ_SIZE
 
-module _ {H : Type 0} (R : Rules H) (source source' out out' : Option (List ℕ))
-    (old new : Option (Platform H)) where
+module _ {H M : Type 0} (R : Rules H M) (source source' out out' : Option (List ℕ))
+    (old new : Option (Platform H M)) where
   -- the lines before the first bad one are done and written, and it is the first whatever follows;
   -- all of the source was read where there is none
   pub record AllDone (bad : Option ScriptFault) : Type 0 where
@@ -107,8 +108,8 @@ module _ {H : Type 0} (R : Rules H) (source source' out out' : Option (List ℕ)
 
 -- what a run that ended so took, did and wrote; memory may also run out before anything is asked of
 -- the source
-abbrev pub Ran : {H : Type 0} → Rules H → RunEnd ScriptFault → Intake → Output → Option (Platform H)
-    → Option (Platform H) → Type 0
+abbrev pub Ran : {H M : Type 0} → Rules H M → RunEnd ScriptFault → Intake → Output → Option (Platform H M)
+    → Option (Platform H M) → Type 0
 Ran R Done s o old new = AllDone R s.old.left s.new.left o.old.contents o.new.contents old new None
 Ran R (Bad first) s o old new =
     AllDone R s.old.left s.new.left o.old.contents o.new.contents old new (Some first)
@@ -119,3 +120,13 @@ Ran R (Cut fault) s o old new =
 Ran R NoMemory s o old new =
     (s.IsUntouched × NotBegun o.old.contents o.new.contents old new)
     ⊎ Paused R s.old.left s.new.left o.old.contents o.new.contents old new
+
+-- the requests that a run did
+abbrev pub requests_done : {H M : Type 0} (R : Rules H M) (end : RunEnd ScriptFault) (s : Intake) (o : Output)
+    (old new : Option (Platform H M)) → Ran R end s o old new → List Request
+requests_done R Done s o old new ran = good_requests 1 (script_lines ran.taken ran.ended)
+requests_done R (Bad first) s o old new ran = good_requests 1 (script_lines ran.taken ran.ended)
+requests_done R ReadFault s o old new ran = good_requests 1 (script_lines ran.taken false)
+requests_done R (Cut fault) s o old new ran = good_requests 1 ran.reached.first ++ ran.request ∷ []
+requests_done R NoMemory s o old new (inl nothing) = []
+requests_done R NoMemory s o old new (inr paused) = good_requests 1 paused.reached.first

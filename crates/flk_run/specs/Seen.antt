@@ -15,7 +15,7 @@ use Rattle.flk_run.specs.declared.tasks.Task.TheVariants as held
 use Rattle.flk_run.specs.Answers.{Answer, Quiet, Done, Counts, Shows, Registers, Ended, Refused}
 use Rattle.flk_run.specs.Events.{task_step}
 use Rattle.flk_run.specs.Parts.{HostParts, platform_with}
-use Rattle.flk_run.specs.Tasks.{Task, Rest, Refuse, Extend, Read, Bind, Show, BindImage, Take, Give, Poke, Peek, Dma, SetRegister, ShowRegisters, Arm, RunSession}
+use Rattle.flk_run.specs.Tasks.{Task, Rest, Refuse, Extend, Read, Bind, Show, BindImage, Take, Give, Poke, Peek, Dma, SetRegister, ShowRegisters, Arm, RunSession, Seed, Unseal}
 
 -- the task, with bytes in place of what holds them
 abbrev pub seen_task : HeldTask → Task
@@ -37,24 +37,31 @@ seen_task (held.Arm turn at bytes) = Arm turn at bytes.bytes
 seen_task (held.RunSession session) =
     RunSession session.image.bytes session.inputs.bytes session.nonce
     (option_map (λ bound. bound.name.now) session.bound)
+seen_task (held.Seed seed) = Seed seed.bytes
+seen_task (held.Unseal unseal) =
+    Unseal unseal.blob.bytes (option_map (λ bound. bound.name.now) unseal.bound)
 
 -- the name that a task binds has 1 to 16 bytes
 abbrev pub IsNamed : Task → Type 0
 IsNamed (Bind name value) = IsShortName name
 IsNamed (BindImage name image) = IsShortName name
 IsNamed (RunSession image inputs nonce (Some name)) = IsShortName name
+IsNamed (Unseal blob (Some name)) = IsShortName name
 IsNamed _ = Unit {0}
 
--- there is room for the outputs of a session, and nothing stands in it
+-- there is room for the outputs of a session, or for what was sealed in a blob, and nothing stands
+-- in it
 pub record IsRoom (room : Bytes) : Type 0 where
   pub none : room.bytes ≡ []
   pub enough : LONGEST_OUTPUTS ≤ room.spare
 
--- a task that runs a session has room for its outputs: for showing them, and for the name that it
--- binds
+-- a task that runs a session has room for its outputs, and one that unseals a blob for what was sealed
+-- in it: for showing them, and for the name that it binds
 abbrev pub HasRoom : HeldTask → Type 0
 HasRoom (held.RunSession session) =
     IsRoom session.outputs × IfSome session.bound (λ bound. IsRoom bound.value)
+HasRoom (held.Unseal unseal) =
+    IsRoom unseal.bytes × IfSome unseal.bound (λ bound. IsRoom bound.value)
 HasRoom other = Unit {0}
 
 -- what a task shows has at most 65,536 bytes
@@ -68,6 +75,7 @@ abbrev pub binds : Task → Bool
 binds (Bind name value) = true
 binds (BindImage name image) = true
 binds (RunSession image inputs nonce (Some name)) = true
+binds (Unseal blob (Some name)) = true
 binds _ = false
 
 -- a task takes a span
@@ -103,6 +111,11 @@ seen_answer (answer.Refused why) = Refused why
 abbrev pub HasShortOutputs : Answer → Type 0
 HasShortOutputs (Ended over) = length over.outputs ≤ LONGEST_OUTPUTS
 HasShortOutputs other = Unit {0}
+
+-- the bytes that an answer shows are at most 4,096
+abbrev pub IsShortShown : Answer → Type 0
+IsShortShown (Shows bytes) = length bytes ≤ LONGEST_OUTPUTS
+IsShortShown other = Unit {0}
 
 -- a host whose platform is known did the task as the platform does, whatever the disk and the
 -- variables

@@ -1,5 +1,5 @@
 -- What the code makes of a session's end.
-use Rattle.std.specs.Prelude.{ℕ, List, [], take, count_by}
+use Rattle.std.specs.Prelude.{ℕ, List, [], take, count_by, Option, Some, None}
 use Rattle.std.specs.FinMap.{insert}
 use Rattle.expr_text.specs.Variables.{Table}
 use Rattle.machine_memory.specs.ArmedWrites.{Armed, is_waiting, is_done, is_blocked}
@@ -7,7 +7,7 @@ use Rattle.slb_core.specs.Reports.{count_of}
 use Rattle.session_driver.specs.declared.driver.SessionEnd.{SessionEnd}
 use Rattle.session_driver.specs.declared.driver.SessionEnd.TheVariants as end
 use Rattle.flk_run.specs.declared.answers.Refusal.TheVariants.{NoImage, NoInput, NoPlace}
-use Rattle.flk_run.specs.Answers.{Answer, Ended, Refused}
+use Rattle.flk_run.specs.Answers.{Answer, Shows, Ended, Refused}
 
 -- the answer to an end, after which the armed writes are these, and the output page is this
 abbrev pub answer_to_end : SessionEnd → List Armed → List ℕ → Answer
@@ -32,3 +32,13 @@ armed_after other writes = writes
 abbrev pub table_after : List ℕ → Answer → Table → Table
 table_after name (Ended over) table = insert table name over.outputs
 table_after name other table = table
+
+-- the bytes that an answer shows, if it does
+abbrev pub shown_in : Answer → Option (List ℕ)
+shown_in (Shows bytes) = Some bytes
+shown_in other = None
+
+-- the variables once a name was bound to bytes, where there are some
+abbrev pub table_with : List ℕ → Option (List ℕ) → Table → Table
+table_with name (Some bytes) table = insert table name bytes
+table_with name None table = table

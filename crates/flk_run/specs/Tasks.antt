@@ -4,12 +4,12 @@ use Rattle.expr_text.specs.Expressions.{Term}
 use Rattle.expr_text.specs.Variables.{Table}
 use Rattle.expr_text.specs.Values.{value_of}
 use Rattle.expr_text.specs.declared.value.TheConstants.{LONGEST_VALUE}
-use Rattle.script_text.specs.Grammar.{Request, Nothing, ExtendBy, ReadOf, LetBe, ShowOf, ImageOf, TakeOf, GiveAt, PokeAt, PeekAt, DmaAt, SetRegOf, RegsOf, ArmAt, SessionOf}
+use Rattle.script_text.specs.Grammar.{Request, Nothing, ExtendBy, ReadOf, LetBe, ShowOf, ImageOf, TakeOf, GiveAt, PokeAt, PeekAt, DmaAt, SetRegOf, RegsOf, ArmAt, SessionOf, SeedOf, UnsealOf}
 use Rattle.expr_text.specs.declared.value.ExprFault.{ExprFault}
 use Rattle.slb_image.specs.Image.{pack}
 use Rattle.slb_image.specs.Faults.{build_fault}
 use Rattle.slb_image.specs.declared.fault.ImageFault.{ImageFault}
-use Rattle.flk_run.specs.declared.answers.TheConstants.{LINE_ROOM, REGISTER_ROOM, SESSION_ROOM}
+use Rattle.flk_run.specs.declared.answers.TheConstants.{LINE_ROOM, REGISTER_ROOM, UNSEAL_ROOM, SESSION_ROOM}
 use Rattle.flk_run.specs.declared.tasks.TheConstants.{NONCE_LEN}
 use Rattle.flk_run.specs.declared.answers.Refusal.{Refusal}
 use Rattle.flk_run.specs.declared.answers.Refusal.TheVariants.{NoValue, NoImage, NoLong, NoNonce}
@@ -18,7 +18,8 @@ use Rattle.flk_run.specs.declared.answers.Refusal.TheVariants.{NoValue, NoImage,
 -- value; to show a value; to bind a name to an image, and to answer how long it is; to take a span of
 -- memory, to give one back, to write bytes into one, to show bytes of one, or to have a device write
 -- bytes; to set a register of the processor, to show all, to arm a device write for a turn of the
--- next session, or to run a session, and to bind a name to its outputs
+-- next session, or to run a session, and to bind a name to its outputs; to give the device a seed, or
+-- to unseal a blob, and to bind a name to what was sealed in it
 pub data Task : Type 0 where
   Rest : Task
   Refuse : (why : Refusal) → Task
@@ -36,6 +37,8 @@ pub data Task : Type 0 where
   ShowRegisters : Task
   Arm : (turn : ℕ) → (at : ℕ) → (bytes : List ℕ) → Task
   RunSession : (image inputs nonce : List ℕ) → (var : Option (List ℕ)) → Task
+  Seed : (seed : List ℕ) → Task
+  Unseal : (blob : List ℕ) → (var : Option (List ℕ)) → Task
 
 -- the room that is made for the line of a task's answer; nothing has no line
 abbrev pub room : Task → ℕ
@@ -43,6 +46,7 @@ room Rest = 0
 room (Show bytes) = LINE_ROOM + 2 * length bytes
 room (Peek at count) = LINE_ROOM + 2 * count
 room (RunSession image inputs nonce var) = SESSION_ROOM
+room (Unseal blob var) = UNSEAL_ROOM
 room other = REGISTER_ROOM
 
 -- beside that room, a task may allocate: for a value, for a name, for bytes of memory to show, for a
@@ -103,6 +107,8 @@ task_of (SessionOf image inputs nonce var) table =
     value_task image table (λ image.
     value_task inputs table (λ inputs.
     value_task nonce table (λ nonce. session_or_nonce image inputs nonce var)))
+task_of (SeedOf seed) table = value_task seed table (λ bytes. Seed bytes)
+task_of (UnsealOf blob var) table = value_task blob table (λ bytes. Unseal bytes var)
 
 -- a request may allocate where its task may; that of a session, where its first expression has a value
 abbrev pub MayAllocateFor : Request → Table → Type 0

@@ -8,6 +8,7 @@ use flk_base::{Bytes, print_hex};
 use itoa::Buffer;
 use late_launch::End;
 use script_text::ExprFault;
+use seal_device::LONGEST_SEALED;
 use slb_image::{ImageFault, fault_number};
 
 /// The room that a line of the transcript has, beside the digits of a value.
@@ -18,6 +19,9 @@ pub(crate) const REGISTER_ROOM: usize = LINE_ROOM + 40;
 
 /// The most bytes of outputs that a session has.
 pub(crate) const LONGEST_OUTPUTS: usize = 4096;
+
+/// The room that it has with what was sealed in a blob.
+pub(crate) const UNSEAL_ROOM: usize = LINE_ROOM + 2 * LONGEST_SEALED;
 
 /// The room that it has with the end of a session, whose outputs have at most 4,096 bytes.
 pub(crate) const SESSION_ROOM: usize = 128 + 2 * LONGEST_OUTPUTS;
@@ -47,6 +51,16 @@ pub enum Refusal {
     NoInput,
     /// No area is free for a session.
     NoPlace,
+    /// The device has a seed.
+    NoSeeded,
+    /// The device has no seed.
+    NoSeed,
+    /// The bytes are no blob of this device.
+    NoBlob,
+    /// Register 17 has another value than when the blob was sealed.
+    NoChain,
+    /// The counter that the blob bears is not in use, or has another value.
+    NoCounter,
     /// The power was lost before the event was done.
     PowerLost,
 }
@@ -267,6 +281,11 @@ fn put_refusal(out: &mut Bytes, number: u32, refusal: Refusal)
         Refusal::NoNonce => put_line(out, number, b"no nonce"),
         Refusal::NoInput => put_line(out, number, b"no input"),
         Refusal::NoPlace => put_line(out, number, b"no place"),
+        Refusal::NoSeeded => put_line(out, number, b"no seeded"),
+        Refusal::NoSeed => put_line(out, number, b"no seed"),
+        Refusal::NoBlob => put_line(out, number, b"no blob"),
+        Refusal::NoChain => put_line(out, number, b"no chain"),
+        Refusal::NoCounter => put_line(out, number, b"no counter"),
         Refusal::PowerLost => put_line(out, number, b"power lost"),
     }
 }

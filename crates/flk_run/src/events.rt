@@ -1,20 +1,21 @@
 // What an event does, once its values are there.
 ghost use Rattle.std.specs.Prelude.{◌≡◌, ◌≤◌, true, false, IfOk, IsErr, OnErr};
+ghost use Rattle.std.specs.Option.{option_map};
 ghost use Rattle.script_text.specs.Seen.{IsShortName};
 ghost use Rattle.seal_device.specs.Digests.{digests};
 ghost use Rattle.flk_run.specs.declared.disk.SimDisk.{SimDisk as DiskView};
 ghost use Rattle.flk_run.specs.Answers.{room_of};
 ghost use Rattle.flk_run.specs.Events.{task_step};
 ghost use Rattle.flk_run.specs.Parts.{platform_with};
-ghost use Rattle.flk_run.specs.Seen.{seen_task, seen_answer, binds, takes, arms, IsNamed, IsRoom, HasRoom, HasShortOutputs};
+ghost use Rattle.flk_run.specs.Seen.{seen_task, seen_answer, binds, takes, arms, IsNamed, IsRoom, HasRoom, HasShortOutputs, IsShortShown};
 ghost use Rattle.flk_run.specs.Tasks.{room, MayAllocate};
-ghost use Rattle.flk_run.specs.Sessions.{table_after};
-ghost use Rattle.flk_run.specs.declared.answers.TheConstants.{SESSION_ROOM};
+ghost use Rattle.flk_run.specs.Sessions.{table_after, table_with, shown_in};
+ghost use Rattle.flk_run.specs.declared.answers.TheConstants.{SESSION_ROOM, UNSEAL_ROOM};
 ghost use Rattle.flk_run.specs.declared.tasks.Task.TheVariants as HeldTask;
 
 use crate::answers::Answer;
 use crate::host::Host;
-use crate::tasks::{Bound, SessionTask, Task};
+use crate::tasks::{Bound, SessionTask, Task, UnsealTask};
 use flk_base::{Bytes, NoMemory};
 use script_text::Vars;
 
@@ -88,6 +89,8 @@ fn done(host: Host, vars: &mut Vars, task: Task<'_>) -> (Host, Answer)
         Task::ShowRegisters => return host.show_registers(),
         Task::Arm { .. } => unreachable!(),
         Task::RunSession(session) => return run_session(host, vars, session),
+        Task::Seed { seed } => return host.seed(seed.as_slice()),
+        Task::Unseal(unseal) => return run_unseal(host, vars, unseal),
     }
 }
 
@@ -118,6 +121,27 @@ fn run_session(host: Host, vars: &mut Vars, session: SessionTask<'_>) -> (Host, 
     (host, answer)
 }
 
+// Unseals a blob, and binds its name to what was sealed in it, where it has one and the blob opened.
+fn run_unseal(host: Host, vars: &mut Vars, unseal: UnsealTask<'_>) -> (Host, Answer)
+    requires named { IsNamed (seen_task (HeldTask.Unseal unseal)) }
+    requires room { HasRoom (HeldTask.Unseal unseal) }
+    requires name { binds (seen_task (HeldTask.Unseal unseal)) ≡ true → 1 ≤ vars.old.spare }
+    ensures untaken { result.0.untaken ≡ host.untaken }
+    ensures done { host.untaken ≡ true → (disk : DiskView) →
+        (platform_with result.0.armed result.0.board result.0.spans disk vars.new.table, seen_answer result.1)
+        ≡ task_step digests (seen_task (HeldTask.Unseal unseal.entry))
+        (platform_with host.armed host.board host.spans disk vars.old.table) }
+    ensures fits { room_of (seen_answer result.1) ≤ UNSEAL_ROOM }
+    ensures short { HasShortOutputs (seen_answer result.1) }
+{
+    let UnsealTask { blob, bytes, bound } = unseal;
+    let (host, answer) = host.unseal(blob.as_slice(), bytes);
+    if let Some(Bound { name, value }) = bound {
+        bind_bytes(vars, name, value, &answer);
+    }
+    (host, answer)
+}
+
 // Binds a name to the outputs of a session that ended.
 fn bind_outputs(vars: &mut Vars, name: &[u8], value: Bytes, answer: &Answer)
     requires name { IsShortName name.now }
@@ -130,5 +154,32 @@ fn bind_outputs(vars: &mut Vars, name: &[u8], value: Bytes, answer: &Answer)
         let mut value = value;
         value.put(over.outputs.as_slice());
         vars.put(name, value);
+    }
+}
+
+// Binds a name to the bytes that an answer shows.
+fn bind_bytes(vars: &mut Vars, name: &[u8], value: Bytes, answer: &Answer)
+    requires name { IsShortName name.now }
+    requires room { IsRoom value }
+    requires spare { 1 ≤ vars.old.spare }
+    requires short { IsShortShown (seen_answer answer.now) }
+    ensures { vars.new.table ≡ table_with name.now (shown_in (seen_answer answer.now)) vars.old.table }
+{
+    if let Some(bytes) = shown_bytes(answer) {
+        let mut value = value;
+        value.put(bytes);
+        vars.put(name, value);
+    }
+}
+
+// The bytes that an answer shows, if it does.
+fn shown_bytes(answer: &Answer) -> Option<&[u8]>
+    ensures { option_map (λ bytes. bytes.now) result ≡ shown_in (seen_answer answer.now) }
+{
+    match answer {
+        Answer::Register(value) => Some(value),
+        Answer::Shows(value) => Some(value.as_slice()),
+        Answer::Peeked(bytes) => Some(bytes),
+        _ => None,
     }
 }

@@ -1,13 +1,14 @@
 // What the host does with a board: events without expressions.
 ghost use Rattle.std.specs.Prelude.{◌≡◌, ◌+◌, ◌*◌, ◌≤◌, length, slice_set, take, true, None, OnOk, OnErr, IfOk};
 ghost use Rattle.flk_run.specs.Answers.{room_of};
-ghost use Rattle.flk_run.specs.Seen.{Steps, seen_answer, HasShortOutputs, IsRoom};
+ghost use Rattle.flk_run.specs.Seen.{Steps, seen_answer, HasShortOutputs, IsShortShown, IsRoom};
 ghost use Rattle.flk_run.specs.Sessions.{answer_to_end, armed_after};
 ghost use Rattle.slb_core.specs.Reports.{count_of};
-ghost use Rattle.flk_run.specs.Tasks.{Extend, Read, Take, Give, Poke, Peek, Dma as WriteByDevice, SetRegister, ShowRegisters, Arm, RunSession};
+ghost use Rattle.flk_run.specs.Tasks.{Extend, Read, Take, Give, Poke, Peek, Dma as WriteByDevice, SetRegister, ShowRegisters, Arm, RunSession, Seed, Unseal};
 
 use crate::answers::{
     Answer, LINE_ROOM, LONGEST_OUTPUTS, REGISTER_ROOM, Refusal, SESSION_ROOM, SessionOver,
+    UNSEAL_ROOM,
 };
 use crate::board::{dev_write, give, host_read, host_write, take};
 use crate::spans::{Spans, keep, room_for_ticket, ticket_at};
@@ -16,7 +17,7 @@ use i386_profile::Cpu;
 use late_launch::{Board, End};
 use machine_memory::{DevEnd, Dma, Memory, frame_law};
 use region_pool::Ticket;
-use seal_device::RegisterFault;
+use seal_device::{LONGEST_SEALED, Provisioned, RegisterFault, UnsealFault};
 use session_driver::{SessionEnd, session};
 use std::alloc::Global;
 use std::marker::Model;
@@ -145,6 +146,43 @@ impl Host {
             Ok(value) => return (host, Answer::Register(value)),
             Err(RegisterFault::NoRegister) => return (host, Answer::Refused(Refusal::NoRegister)),
             Err(RegisterFault::PowerLost) => return host.power_lost(),
+        }
+    }
+
+    /// Gives the device a seed.
+    pub(crate) fn seed(self, seed: &[u8]) -> (Host, Answer)
+        ensures untaken { result.0.untaken ≡ self.untaken }
+        ensures steps { self.untaken ≡ true → Steps (Seed seed.now) self result.0 result.1 }
+        ensures fits { room_of (seen_answer result.1) ≤ REGISTER_ROOM }
+    {
+        let mut host = self;
+        match host.board.provision(seed) {
+            Ok(()) => return (host, Answer::Done),
+            Err(Provisioned) => return (host, Answer::Refused(Refusal::NoSeeded)),
+        }
+    }
+
+    /// Unseals a blob, for whose bytes there is room.
+    pub(crate) fn unseal(self, blob: &[u8], bytes: Bytes) -> (Host, Answer)
+        requires { IsRoom bytes }
+        ensures untaken { result.0.untaken ≡ self.untaken }
+        ensures steps { self.untaken ≡ true → Steps (Unseal blob.now None) self result.0 result.1 }
+        ensures fits { room_of (seen_answer result.1) ≤ UNSEAL_ROOM }
+        ensures short { IsShortShown (seen_answer result.1) }
+    {
+        let mut host = self;
+        let mut bytes = bytes;
+        let mut out = [0; LONGEST_SEALED];
+        match host.board.unseal(blob, &mut out) {
+            Ok(size) => {
+                bytes.put(&out[..size]);
+                return (host, Answer::Shows(bytes));
+            }
+            Err(UnsealFault::PowerLost) => return host.power_lost(),
+            Err(UnsealFault::Unprovisioned) => return (host, Answer::Refused(Refusal::NoSeed)),
+            Err(UnsealFault::NotBlob) => return (host, Answer::Refused(Refusal::NoBlob)),
+            Err(UnsealFault::WrongChain) => return (host, Answer::Refused(Refusal::NoChain)),
+            Err(UnsealFault::WrongCounter) => return (host, Answer::Refused(Refusal::NoCounter)),
         }
     }
 

@@ -16,7 +16,7 @@ mod tasks;
 pub use answers::Refusal;
 pub use disk::SimDisk;
 pub use late_launch::Board;
-pub use laws::{blank_board_is_blank, script_is_one_plan, scripts_by_lists};
+pub use laws::{blank_board_is_blank, fair_scripts_agree, script_is_one_plan, scripts_by_lists};
 pub use run::{ScriptFault, run_script};
 pub use runner::{Runner, StepEnd};
 pub use spans::Spans;

@@ -3,12 +3,10 @@ ghost use Rattle.std.specs.Prelude.{◌≡◌, ℕ, ◌≤◌, ◌+◌, List, []
 ghost use Rattle.flk_base.specs.Streams.{intake, output};
 ghost use Rattle.flk_base.specs.RunEnds.{HasCauses, WriteHasCause};
 ghost use Rattle.seal_device.specs.Digests.{digests};
-ghost use Rattle.seal_device.specs.Lists.{lists};
 ghost use Rattle.script_text.specs.Reading.{judged};
 ghost use Rattle.script_text.specs.Seen.{request_of, HasShortName};
-ghost use Rattle.flk_run.specs.Agreement.{AgreesByLists};
-ghost use Rattle.flk_run.specs.Platform.{ListPlatform, platform_digested};
 ghost use Rattle.flk_run.specs.Parts.{platform};
+ghost use Rattle.flk_run.specs.Agreement.{RanTwice};
 ghost use Rattle.flk_run.specs.Runs.{Ran};
 ghost use Rattle.flk_run.specs.LineRuns.{LineRan};
 
@@ -37,13 +35,10 @@ pub fn run_script<S: Source, K: Sink>(
     out: &mut K,
     runner: Runner,
 ) -> (Runner, RunEnd<ScriptFault>)
-    // What was taken, done and written, on the platform by digests.
-    ensures ran { Ran digests result.1 (intake S.Source source.old source.new)
+    // What was taken, done and written: on the platform by digests, and, where no command compared, by lists, from each
+    // platform of lists that stands for the runner's.
+    ensures ran { RanTwice result.1 (intake S.Source source.old source.new)
         (output K.Sink out.old out.new) (platform runner) (platform result.0) }
-    // The same by lists, from each platform that stands for the runner's.
-    ensures lists { (p : ListPlatform) → platform runner ≡ Some (platform_digested p) →
-        AgreesByLists (Ran lists result.1 (intake S.Source source.old source.new)
-        (output K.Sink out.old out.new)) p (platform result.0) }
     // Whether the platform is known stays as it was.
     ensures untaken { result.0.untaken ≡ runner.untaken }
     // No fault is passed over, or reported as another end.

@@ -5,10 +5,12 @@ ghost use Rattle.expr_text.specs.Values.{value_of};
 ghost use Rattle.script_text.specs.Seen.{request_of, HasShortName};
 ghost use Rattle.slb_image.specs.Faults.{build_fault};
 ghost use Rattle.slb_image.specs.Image.{pack};
-ghost use Rattle.flk_run.specs.Tasks.{Extend, Bind, Show, Poke, Dma, Arm, value_task, image_or_fault, peek_or_long, session_or_nonce, room, task_of, MayAllocateFor};
+ghost use Rattle.flk_run.specs.Tasks.{Extend, Bind, Show, Poke, Dma, Arm, Seed, Unseal, value_task, image_or_fault, peek_or_long, session_or_nonce, room, task_of, MayAllocateFor};
 ghost use Rattle.flk_run.specs.Seen.{seen_task, binds, takes, IsNamed, IsShown, IsRoom, HasRoom};
 
-use crate::answers::{LINE_ROOM, LONGEST_OUTPUTS, REGISTER_ROOM, Refusal, SESSION_ROOM};
+use crate::answers::{
+    LINE_ROOM, LONGEST_OUTPUTS, REGISTER_ROOM, Refusal, SESSION_ROOM, UNSEAL_ROOM,
+};
 use flk_base::{Bytes, NoMemory};
 use script_text::{Event, Expr, ExprError, ExprFault, LONGEST_VALUE, Vars};
 use slb_image::{BuildError, build};
@@ -17,7 +19,7 @@ use std::alloc::Global;
 /// How many bytes a nonce has.
 pub(crate) const NONCE_LEN: usize = 20;
 
-/// A name that a session binds to its outputs, for which there is room.
+/// A name that a task binds to what it shows, for which there is room.
 #[derive(Drop)]
 pub(crate) struct Bound<'e> {
     pub(crate) name: &'e [u8],
@@ -31,6 +33,14 @@ pub(crate) struct SessionTask<'e> {
     pub(crate) inputs: Bytes,
     pub(crate) nonce: [u8; NONCE_LEN],
     pub(crate) outputs: Bytes,
+    pub(crate) bound: Option<Bound<'e>>,
+}
+
+/// The unsealing of a blob: room for what was sealed in it, and the name that it binds to this.
+#[derive(Drop)]
+pub(crate) struct UnsealTask<'e> {
+    pub(crate) blob: Bytes,
+    pub(crate) bytes: Bytes,
     pub(crate) bound: Option<Bound<'e>>,
 }
 
@@ -69,6 +79,10 @@ pub(crate) enum Task<'e> {
     Arm { turn: u32, at: u32, bytes: Bytes },
     /// To run a session.
     RunSession(SessionTask<'e>),
+    /// To give the device a seed.
+    Seed { seed: Bytes },
+    /// To unseal a blob.
+    Unseal(UnsealTask<'e>),
 }
 
 // What an expression is worth: its value, or why it has none; neither where memory ran out.
@@ -230,7 +244,7 @@ fn arm_task(
     }
 }
 
-// Room for the outputs of a session.
+// Room for the outputs of a session, or for what was sealed in a blob.
 fn room_for_outputs(alloc: Global) -> Result<Bytes, NoMemory>
     ensures { IfOk result IsRoom }
 {
@@ -239,7 +253,7 @@ fn room_for_outputs(alloc: Global) -> Result<Bytes, NoMemory>
     Ok(outputs)
 }
 
-// The name that a session binds, with room for its outputs.
+// The name that a task binds, with room for what it shows.
 fn bound_name<'e>(alloc: Global, name: &'e [u8]) -> Result<Bound<'e>, NoMemory>
     ensures { IfOk result (λ bound. (bound.name.now ≡ name.now) × IsRoom bound.value) }
 {
@@ -285,6 +299,46 @@ fn session_of<'e>(
         outputs,
         bound,
     }))
+}
+
+fn seed_task(alloc: Global, seed: &Expr, vars: &Vars) -> Result<Task<'static>, NoMemory>
+    ensures task { IfOk result
+        (λ task. seen_task task ≡ value_task seed.now vars.now.table (λ bytes. Seed bytes)) }
+    ensures memory { IsErr result → IsOk (value_of seed.now vars.now.table) }
+{
+    match worth(alloc, seed, vars)? {
+        Ok(seed) => return Ok(Task::Seed { seed }),
+        Err(fault) => return Ok(Task::Refuse(Refusal::NoValue(fault))),
+    }
+}
+
+// To unseal a blob, with room for what was sealed in it.
+fn unseal_of<'e>(alloc: Global, blob: Bytes, var: &'e Option<Bytes>) -> Result<Task<'e>, NoMemory>
+    ensures task { IfOk result (λ task. seen_task task
+        ≡ Unseal blob.bytes (option_map (λ name. name.bytes) var.now)) }
+    ensures room { IfOk result HasRoom }
+{
+    let bytes = room_for_outputs(alloc)?;
+    let bound = bound_of(alloc, var)?;
+    Ok(Task::Unseal(UnsealTask { blob, bytes, bound }))
+}
+
+fn unseal_task<'e>(
+    alloc: Global,
+    blob: &Expr,
+    var: &'e Option<Bytes>,
+    vars: &Vars,
+) -> Result<Task<'e>, NoMemory>
+    ensures task { IfOk result (λ task. seen_task task
+        ≡ value_task blob.now vars.now.table (λ bytes.
+        Unseal bytes (option_map (λ name. name.bytes) var.now))) }
+    ensures room { IfOk result HasRoom }
+    ensures memory { IsErr result → IsOk (value_of blob.now vars.now.table) }
+{
+    match worth(alloc, blob, vars)? {
+        Ok(blob) => return unseal_of(alloc, blob, var),
+        Err(fault) => return Ok(Task::Refuse(Refusal::NoValue(fault))),
+    }
 }
 
 // The values of a session's expressions, from the left.
@@ -367,6 +421,8 @@ pub(crate) fn task_of<'e>(
             nonce,
             var,
         } => return session_task(alloc, image, inputs, nonce, var, vars),
+        Event::Seed { seed } => return seed_task(alloc, seed, vars),
+        Event::Unseal { blob, var } => return unseal_task(alloc, blob, var, vars),
     }
 }
 
@@ -381,6 +437,7 @@ impl Task<'_> {
             Task::Show { value } => LINE_ROOM + 2 * value.as_slice().len(),
             Task::Peek { at: _, bytes } => LINE_ROOM + 2 * bytes.len(),
             Task::RunSession(_) => SESSION_ROOM,
+            Task::Unseal(_) => UNSEAL_ROOM,
             _ => REGISTER_ROOM,
         }
     }
@@ -392,6 +449,7 @@ impl Task<'_> {
         match self {
             Task::Bind { .. } | Task::BindImage { .. } => true,
             Task::RunSession(session) => session.bound.is_some(),
+            Task::Unseal(unseal) => unseal.bound.is_some(),
             _ => false,
         }
     }

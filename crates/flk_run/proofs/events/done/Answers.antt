@@ -1,3 +1,11 @@
+use Rattle.std.proofs.Common.{◌≡◌, ℕ, List, subst}
+use Rattle.seal_device.specs.Digests.{digests}
+use Rattle.flk_run.specs.Answers.{Answer}
+use Rattle.flk_run.specs.Platform.{DigestPlatform}
+use Rattle.flk_run.specs.Parts.{platform_with}
+use Rattle.flk_run.specs.Events.{task_step}
+use Rattle.flk_run.specs.Seen.{seen_answer}
+use Rattle.flk_run.specs.Tasks.{Seed}
 use Rattle.flk_run.proofs.events.done.Goals as goal
 
 pub returns-in-Extend-clause-done : goal.returns-in-Extend-clause-done
@@ -43,3 +51,17 @@ returns-in-ShowRegisters-clause-done c =
 
 pub returns-in-RunSession-clause-done : goal.returns-in-RunSession-clause-done
 returns-in-RunSession-clause-done c = rw c.in-RunSession.is c.run_session.ensures.done
+
+pub returns-in-Seed-clause-done : goal.returns-in-Seed-clause-done
+returns-in-Seed-clause-done c =
+    let host = c.args.host in
+    let after = c.seed-in-Seed.result in
+    rw c.in-Seed.is (λ untaken disk.
+    subst (λ (seed : List ℕ).
+    ◌≡◌ {A = DigestPlatform × Answer}
+    (platform_with after.0.armed after.0.board after.0.spans disk c.args.vars.now.table, seen_answer after.1)
+    (task_step digests (Seed seed) (platform_with host.armed host.board host.spans disk c.args.vars.now.table)))
+    c.as_slice-in-Seed.ensures (c.seed-in-Seed.ensures.steps untaken disk c.args.vars.now.table))
+
+pub returns-in-Unseal-clause-done : goal.returns-in-Unseal-clause-done
+returns-in-Unseal-clause-done c = rw c.in-Unseal.is c.run_unseal.ensures.done
