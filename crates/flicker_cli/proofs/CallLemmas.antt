@@ -18,7 +18,7 @@ use Rattle.seal_device.specs.Digests.{digests}
 use Rattle.seal_device.specs.Lists.{lists}
 use Rattle.seal_device.specs.Rules.{Rules}
 use Rattle.late_launch.specs.Boards.{BoardParts}
-use Rattle.flk_run.specs.Agreement.{AgreesByLists}
+use Rattle.flk_run.specs.Agreement.{AgreesByLists, NothingComparedBy}
 use Rattle.flk_run.specs.Platform.{Platform, ListPlatform, DigestPlatform, platform_digested, at_rest}
 use Rattle.flk_run.specs.declared.disk.SimDisk.{SimDisk}
 use Rattle.flk_run.specs.Parts.{Experiment, platform_of, known_if, platform}
@@ -36,7 +36,7 @@ use Rattle.flicker_cli.specs.declared.words.Command.TheVariants.{Run, Filter}
 use Rattle.flicker_cli.specs.declared.fault.Fault.{Fault}
 use Rattle.flicker_cli.specs.declared.fault.Fault.TheVariants.{Words, Script, Input}
 use Rattle.flicker_cli.specs.Messages.{message_of, fault_status}
-use Rattle.flicker_cli.specs.Calls.{ScriptRan, InputRan, CallRan, Reported, status_after, Answered}
+use Rattle.flicker_cli.specs.Calls.{ScriptRan, InputRan, CallRan, Reported, status_after, Answered, AnsweredTwice, call_done}
 use Rattle.flicker_cli.specs.Texts.{script_end, input_end, end_on, IsText}
 
 -- ---- what the bytes taken are
@@ -60,7 +60,7 @@ judged_words before now same = record {
 }
 
 -- a script
-judged_script : {H : Type 0} (R : Rules H) (source source' out out' : Option (List ℕ)) (old new : Option (Platform H)) (bad : Option ScriptFault) → AllDone R source source' out out' old new bad
+judged_script : {H M : Type 0} (R : Rules H M) (source source' out out' : Option (List ℕ)) (old new : Option (Platform H M)) (bad : Option ScriptFault) → AllDone R source source' out out' old new bad
     → (script_end bad ≡ Done → bad ≡ None) → Judged (Some Run) (script_end bad) source source'
 judged_script R source source' out out' old new bad d none = record {
   taken = d.taken;
@@ -119,7 +119,7 @@ IsTextEnd Done = Unit {0}
 IsTextEnd (Bad fault) = Unit {0}
 IsTextEnd other = ⊥
 
-module _ {H : Type 0} (R : Rules H) (source : Intake) (out : Output) (old new : Option (Platform H)) where
+module _ {H M : Type 0} (R : Rules H M) (source : Intake) (out : Output) (old new : Option (Platform H M)) where
   by_script : (end : RunEnd Fault) → IsTextEnd end → ScriptRan R end source out old new → Judged (Some Run) end source.old.left source.new.left
   by_script end is d = subst (λ (e : RunEnd Fault). Judged (Some Run) e source.old.left source.new.left) (sym d.is) (how_it_ran d.how (subst IsTextEnd d.is is) d.ran) where
     how_it_ran : (how : RunEnd ScriptFault) → IsTextEnd (mapped_end Script how) → Ran R how source out old d.reached → Judged (Some Run) (mapped_end Script how) source.old.left source.new.left
@@ -168,7 +168,7 @@ module _ {H : Type 0} (R : Rules H) (source : Intake) (out : Output) (old new : 
 -- ---- calls
 
 -- memory ran out before anything was begun
-pub no_room : {H : Type 0} (R : Rules H) (command : Command) (source : Intake) (out : Output) (platform : Option (Platform H)) → platform ≡ option_map at_rest platform → source.IsUntouched → out.new.contents ≡ out.old.contents
+pub no_room : {H M : Type 0} (R : Rules H M) (command : Command) (source : Intake) (out : Output) (platform : Option (Platform H M)) → platform ≡ option_map at_rest platform → source.IsUntouched → out.new.contents ≡ out.old.contents
     → CallRan R (Some command) NoMemory source out platform platform
 no_room R Run source out platform unnamed same unwritten = record { how = NoMemory; is = refl; reached = platform; ran = inl (same, record { unwritten = unwritten; kept = refl }); left = unnamed }
 no_room R (Filter which) source out platform unnamed same unwritten = record { how = NoMemory; is = refl; ran = inl (same, unwritten); kept = refl }
@@ -184,25 +184,29 @@ pub names_given_up : (untaken : Bool) (new : Experiment) → new.untaken ≡ unt
 names_given_up true new same = rw same refl
 names_given_up false new same = rw same refl
 
--- what a call did by digests it did by lists
-pub call_by_lists : (task : Option Command) (end : RunEnd Fault) (source : Intake) (out : Output) (p : ListPlatform) (old new : Option DigestPlatform) → old ≡ Some (platform_digested p) → CallRan digests task end source out old new
+-- what a call did by digests of which no command compared it did by lists
+call_by_lists : (task : Option Command) (end : RunEnd Fault) (source : Intake) (out : Output) (p : ListPlatform) (old new : Option DigestPlatform) → old ≡ Some (platform_digested p)
+    → (ran : CallRan digests task end source out old new) → NothingComparedBy (call_done digests task end source out old new ran) (platform_digested p)
     → AgreesByLists (CallRan lists task end source out) p new
-call_by_lists None end source out p old new stands ran = record { left = p; stands = ran.1.kept ∙ stands; comes = (ran.0, record { unasked = ran.1.unasked; unread = ran.1.unread; unwritten = ran.1.unwritten; kept = refl }) }
-call_by_lists (Some Run) end source out p old new stands ran =
-    let again = run_from ran.how source out p old ran.reached stands ran.ran in
+call_by_lists None end source out p old new stands ran nothing = record { left = p; stands = ran.1.kept ∙ stands; comes = (ran.0, record { unasked = ran.1.unasked; unread = ran.1.unread; unwritten = ran.1.unwritten; kept = refl }) }
+call_by_lists (Some Run) end source out p old new stands ran nothing =
+    let again = run_from ran.how source out p old ran.reached stands ran.ran nothing in
     record {
       left = at_rest again.left;
       stands = ran.left ∙ ap (option_map at_rest) again.stands;
       comes = record { how = ran.how; is = ran.is; reached = Some again.left; ran = again.comes; left = refl };
     }
-call_by_lists (Some (Filter which)) end source out p old new stands ran = record { left = p; stands = ran.kept ∙ stands; comes = record { how = ran.how; is = ran.is; ran = ran.ran; kept = refl } }
+call_by_lists (Some (Filter which)) end source out p old new stands ran nothing = record { left = p; stands = ran.kept ∙ stands; comes = record { how = ran.how; is = ran.is; ran = ran.ran; kept = refl } }
 
--- what a call answered by digests it answered by lists
-pub answered_by_lists : (task : Option Command) (status : ℕ) (source : Intake) (out err : Output) (p : ListPlatform) (old new : Option DigestPlatform) → old ≡ Some (platform_digested p) → Answered digests task status source out err old new
-    → AgreesByLists (Answered lists task status source out err) p new
-answered_by_lists task status source out err p old new stands a =
-    let again = call_by_lists task a.end source out p old new stands a.ran in
-    record { left = again.left; stands = again.stands; comes = record { end = a.end; cut = a.cut; ran = again.comes; caused = a.caused; reported = a.reported; answer = a.answer } }
+-- what a call answered by digests it answered by lists, where no command compared
+pub answered_twice : (task : Option Command) (status : ℕ) (source : Intake) (out err : Output) (old new : Option DigestPlatform) → Answered digests task status source out err old new
+    → AnsweredTwice task status source out err old new
+answered_twice task status source out err old new a = record {
+  digests = a;
+  lists = λ p stands nothing.
+      let again = call_by_lists task a.end source out p old new stands a.ran nothing in
+      record { left = again.left; stands = again.stands; comes = record { end = a.end; cut = a.cut; ran = again.comes; caused = a.caused; reported = a.reported; answer = a.answer } };
+}
 
 -- ---- statuses
 
@@ -288,7 +292,7 @@ no_fault task content fault (Some rest) j good =
     let same : end_on task (j.taken ++ rest) true ≡ Done = ap (λ bytes. end_on task bytes true) (sym whole) ∙ good in
     cc
 
-module _ {H : Type 0} (R : Rules H) (source : Intake) (out err : Output) (old new : Option (Platform H)) where
+module _ {H M : Type 0} (R : Rules H M) (source : Intake) (out err : Output) (old new : Option (Platform H M)) where
   -- a call whose status is 0, 1 or 2
   pub text_of : (task : Option Command) (status : ℕ) → Answered R task status source out err old new → status ≤ 2 → IsText task status source err
   text_of task status a few =

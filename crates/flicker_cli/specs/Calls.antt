@@ -12,9 +12,13 @@ use Rattle.flk_base.specs.declared.run_end.RunEnd.TheVariants.{Bad}
 use Rattle.flk_base.specs.declared.streams.PutFault.{PutFault}
 use Rattle.flk_base.specs.declared.streams.PutFault.TheVariants.{Failed, NoMemory}
 use Rattle.flk_run.specs.declared.run.ScriptFault.{ScriptFault}
+use Rattle.script_text.specs.Grammar.{Request}
 use Rattle.seal_device.specs.Rules.{Rules}
-use Rattle.flk_run.specs.Platform.{Platform, at_rest}
-use Rattle.flk_run.specs.Runs.{Ran}
+use Rattle.seal_device.specs.Digests.{digests as by_digests}
+use Rattle.seal_device.specs.Lists.{lists as by_lists}
+use Rattle.flk_run.specs.Platform.{Platform, ListPlatform, DigestPlatform, platform_digested, at_rest}
+use Rattle.flk_run.specs.Runs.{Ran, requests_done}
+use Rattle.flk_run.specs.Agreement.{NothingComparedBy, AgreesByLists}
 use Rattle.flk_filters.specs.declared.fault.BadInput.{BadInput}
 use Rattle.flk_filters.specs.declared.filter.Filter.{Filter as Which}
 use Rattle.flk_filters.specs.Inputs.{FilterRan}
@@ -27,22 +31,22 @@ use Rattle.flicker_cli.specs.Messages.{message_of, status_of}
 -- ---- what a command did
 
 -- nothing was asked of the source, nothing was written to out, and the platform is as it was
-pub record Untouched {H : Type 0} (source : Intake) (out : Output) (old new : Option (Platform H)) : Type 0 where
+pub record Untouched {H M : Type 0} (source : Intake) (out : Output) (old new : Option (Platform H M)) : Type 0 where
   pub unasked : source.IsUntouched
   pub unread : source.new.left ≡ source.old.left
   pub unwritten : out.new.contents ≡ out.old.contents
   pub kept : new ≡ old
 
 -- a script ended so; the names that it bound are given up, and no device write stays armed
-pub record ScriptRan {H : Type 0} (R : Rules H) (end : RunEnd Fault) (source : Intake) (out : Output) (old new : Option (Platform H)) : Type 0 where
+pub record ScriptRan {H M : Type 0} (R : Rules H M) (end : RunEnd Fault) (source : Intake) (out : Output) (old new : Option (Platform H M)) : Type 0 where
   pub how : RunEnd ScriptFault
   pub is : end ≡ mapped_end Script how
-  pub reached : Option (Platform H)
+  pub reached : Option (Platform H M)
   pub ran : Ran R how source out old reached
   pub left : new ≡ option_map at_rest reached
 
 -- a filter ended so, and the platform is as it was
-pub record InputRan {H : Type 0} (which : Which) (end : RunEnd Fault) (source : Intake) (out : Output) (old new : Option (Platform H)) : Type 0 where
+pub record InputRan {H M : Type 0} (which : Which) (end : RunEnd Fault) (source : Intake) (out : Output) (old new : Option (Platform H M)) : Type 0 where
   pub how : RunEnd BadInput
   pub is : end ≡ mapped_end Input how
   pub ran : FilterRan which how source out
@@ -50,7 +54,7 @@ pub record InputRan {H : Type 0} (which : Which) (end : RunEnd Fault) (source : 
 
 -- what a call of these words that ended so took, did and wrote to out; words that are in no row of the table of commands
 -- are an end by themselves
-abbrev pub CallRan : {H : Type 0} → Rules H → Option Command → RunEnd Fault → Intake → Output → Option (Platform H) → Option (Platform H) → Type 0
+abbrev pub CallRan : {H M : Type 0} → Rules H M → Option Command → RunEnd Fault → Intake → Output → Option (Platform H M) → Option (Platform H M) → Type 0
 CallRan R None end source out old new = (end ≡ Bad Words) × Untouched source out old new
 CallRan R (Some Run) end source out old new = ScriptRan R end source out old new
 CallRan R (Some (Filter which)) end source out old new = InputRan which end source out old new
@@ -74,10 +78,27 @@ status_after end (Some NoMemory) = 5
 -- ---- the clause of the top call
 
 -- the call ended so: what it took, did and wrote, what caused that end, its message, and the status
-pub record Answered {H : Type 0} (R : Rules H) (task : Option Command) (status : ℕ) (source : Intake) (out err : Output) (old new : Option (Platform H)) : Type 0 where
+pub record Answered {H M : Type 0} (R : Rules H M) (task : Option Command) (status : ℕ) (source : Intake) (out err : Output) (old new : Option (Platform H M)) : Type 0 where
   pub end : RunEnd Fault
   pub cut : Option PutFault
   pub ran : CallRan R task end source out old new
   pub caused : HasCauses end source out
   pub reported : Reported (message_of end) cut err
   pub answer : status ≡ status_after end cut
+
+-- ---- by lists
+
+-- the requests that a call did: of a script as far as it came, and else none
+abbrev pub call_done : {H M : Type 0} (R : Rules H M) (task : Option Command) (end : RunEnd Fault) (source : Intake) (out : Output) (old new : Option (Platform H M))
+    → CallRan R task end source out old new → List Request
+call_done R None end source out old new ran = []
+call_done R (Some Run) end source out old new ran = requests_done R ran.how source out old ran.reached ran.ran
+call_done R (Some (Filter which)) end source out old new ran = []
+
+-- the call ended so by digests, and so it did by lists, from each platform of lists that stands for the old one, where no
+-- command compared
+pub record AnsweredTwice (task : Option Command) (status : ℕ) (source : Intake) (out err : Output) (old new : Option DigestPlatform) : Type 0 where
+  pub digests : Answered by_digests task status source out err old new
+  pub lists : (p : ListPlatform) → old ≡ Some (platform_digested p)
+      → NothingComparedBy (call_done by_digests task digests.end source out old new digests.ran) (platform_digested p)
+      → AgreesByLists (Answered by_lists task status source out err) p new

@@ -2,13 +2,13 @@
 use Rattle.std.specs.Prelude.{◌≡◌, ℕ, false, List, Option, Some, Result, Ok, Err}
 use Rattle.flk_base.specs.Known.{Edge}
 use Rattle.flk_base.specs.Streams.{Intake, Output}
-use Rattle.seal_device.specs.Rules.{Rules}
+use Rattle.seal_device.specs.Digests.{digests}
 use Rattle.flk_run.specs.declared.disk.SimDisk.{SimDisk}
-use Rattle.flk_run.specs.Platform.{Platform, blank}
+use Rattle.flk_run.specs.Platform.{DigestPlatform, blank}
 use Rattle.flicker_cli.specs.declared.words.Command.{Command}
 use Rattle.flicker_cli.specs.declared.start.StartFault.{StartFault}
 use Rattle.flicker_cli.specs.declared.start.StartFault.TheVariants.{NotText, NoMemory}
-use Rattle.flicker_cli.specs.Calls.{Answered}
+use Rattle.flicker_cli.specs.Calls.{AnsweredTwice}
 
 -- a reader or a writer that has had no fault so far
 abbrev pub edge : {T : Type 0} → T → Edge T
@@ -32,10 +32,10 @@ written_over contents old new = record {
 
 -- a call of these words answered this status, over this reader and these writers, from a platform that was never used;
 -- what it left is given up
-pub record AnsweredOver {H : Type 0} (R : Rules H) (task : Option Command) (status : ℕ) (source : Intake) (out err : Output) : Type 0 where
+pub record AnsweredOver (task : Option Command) (status : ℕ) (source : Intake) (out err : Output) : Type 0 where
   pub disk : SimDisk
-  pub left : Option (Platform H)
-  pub answered : Answered R task status source out err (Some (blank R disk)) left
+  pub left : Option DigestPlatform
+  pub answered : AnsweredTwice task status source out err (Some (blank digests disk)) left
 
 -- the status that the program ends with
 abbrev pub start_status : Result ℕ StartFault → ℕ

@@ -7,7 +7,6 @@ ghost use Rattle.std.specs.Process.{exit_status};
 ghost use Rattle.std.specs.declared.io.ErrorKind.TheVariants.{OutOfMemory};
 ghost use Rattle.flicker_cli.specs.Commands.{command};
 ghost use Rattle.seal_device.specs.Digests.{digests};
-ghost use Rattle.seal_device.specs.Lists.{lists};
 ghost use Rattle.machine_memory.specs.HostMemory.{is_untaken};
 ghost use Rattle.flk_run.specs.Parts.{platform_of, known_if};
 ghost use Rattle.flk_run.specs.Platform.{blank};
@@ -94,12 +93,8 @@ pub fn begin<R: Read, W: Write, V: Write>(
     out: W,
     err: V,
 ) -> Left<R, W, V>
-    // How the call ended, in terms of what the reader and the writers themselves make known.
-    ensures answered { IfOk result.status (λ status. AnsweredOver digests (command (map string_bytes words.now)) status
-        (read_over R.remaining (edge input) result.input) (written_over W.contents (edge out) result.out)
-        (written_over V.contents (edge err) result.err)) }
-    // The same by lists.
-    ensures lists { IfOk result.status (λ status. AnsweredOver lists (command (map string_bytes words.now)) status
+    // How the call ended, by digests and by lists, in terms of what the reader and the writers themselves make known.
+    ensures answered { IfOk result.status (λ status. AnsweredOver (command (map string_bytes words.now)) status
         (read_over R.remaining (edge input) result.input) (written_over W.contents (edge out) result.out)
         (written_over V.contents (edge err) result.err)) }
     // Without a board or a disk nothing is read or written.

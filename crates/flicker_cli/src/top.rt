@@ -5,14 +5,11 @@ ghost use Rattle.flk_base.specs.Causes.{Rose};
 ghost use Rattle.flk_base.specs.Streams.{intake, output};
 ghost use Rattle.flk_base.specs.RunEnds.{HasCauses, mapped_end};
 ghost use Rattle.seal_device.specs.Digests.{digests};
-ghost use Rattle.seal_device.specs.Lists.{lists};
-ghost use Rattle.flk_run.specs.Agreement.{AgreesByLists};
 ghost use Rattle.machine_memory.specs.HostMemory.{is_untaken};
 ghost use Rattle.flk_run.specs.Parts.{HoldsSpans, platform_of, known_if};
-ghost use Rattle.flk_run.specs.Platform.{ListPlatform, platform_digested};
 ghost use Rattle.flicker_cli.specs.declared.words.Command.{Command as CommandView};
 ghost use Rattle.flicker_cli.specs.Commands.{command};
-ghost use Rattle.flicker_cli.specs.Calls.{Answered, CallRan, ScriptRan};
+ghost use Rattle.flicker_cli.specs.Calls.{AnsweredTwice, CallRan, ScriptRan};
 ghost use Rattle.flicker_cli.specs.Room.{wants_room};
 ghost use Rattle.flicker_cli.specs.Texts.{IsText, end_on};
 
@@ -37,16 +34,11 @@ pub fn flicker<S: Source, K: Sink, E: Sink>(
 ) -> Finished
     // How the call ended: what was taken, done and written, by which cause, with which message and status. The platform is
     // known where the board's memory held no span.
-    ensures answered { Answered digests (command (map string_bytes words.now)) result.status
+    // It ended so by digests; and where no command compared, by lists, from each platform of lists that stands for this one.
+    ensures answered { AnsweredTwice (command (map string_bytes words.now)) result.status
         (intake S.Source source.old source.new) (output K.Sink out.old out.new) (output E.Sink err.old err.new)
         (known_if (is_untaken board.memory) (platform_of board [] disk empty))
         (known_if (is_untaken board.memory) (platform_of result.board result.spans result.disk empty)) }
-    // The same by lists, from each platform of lists that stands for this one of digests.
-    ensures lists { (p : ListPlatform)
-        → known_if (is_untaken board.memory) (platform_of board [] disk empty) ≡ Some (platform_digested p)
-        → AgreesByLists (Answered lists (command (map string_bytes words.now)) result.status
-        (intake S.Source source.old source.new) (output K.Sink out.old out.new) (output E.Sink err.old err.new))
-        p (known_if (is_untaken board.memory) (platform_of result.board result.spans result.disk empty)) }
     // Only a script changes the board or the disk, or takes a span.
     ensures kept { (command (map string_bytes words.now) ≡ Some CommandView.Run → ⊥)
         → (result.board ≡ board) × (result.disk ≡ disk) × (result.spans ≡ []) }

@@ -1,17 +1,10 @@
-use Rattle.std.specs.Prelude.{Some}
+use Rattle.std.specs.Prelude.{[]}
 use Rattle.std.specs.FinMap.{empty}
 use Rattle.machine_memory.specs.HostMemory.{is_untaken}
 use Rattle.flk_run.specs.Parts.{platform_of, known_if}
-use Rattle.seal_device.specs.Lists.{lists}
-use Rattle.flk_run.specs.Platform.{blank}
 use Rattle.flicker_cli.proofs.start.begin.Goals as goal
 
 pub returns-in-Ok-clause-answered : goal.returns-in-Ok-clause-answered
 returns-in-Ok-clause-answered g c =
     let answered = rw (c.new-input.ensures, c.new-out.ensures, c.new-err.ensures, c.in-Ok.ensures.blank) at c.flicker-finished.ensures.answered in
     record { disk = c.in-Ok.disk; left = known_if (is_untaken c.in-Ok.board.memory) (platform_of c.flicker-finished.result.board c.flicker-finished.result.spans c.flicker-finished.result.disk empty); answered = rw c.exit.ensures answered }
-
-pub returns-in-Ok-clause-lists : goal.returns-in-Ok-clause-lists
-returns-in-Ok-clause-lists g c =
-    let answered = rw (c.new-input.ensures, c.new-out.ensures, c.new-err.ensures) at (c.flicker-finished.ensures.lists (blank lists c.in-Ok.disk) c.in-Ok.ensures.blank) in
-    record { disk = c.in-Ok.disk; left = Some answered.left; answered = rw c.exit.ensures answered.comes }

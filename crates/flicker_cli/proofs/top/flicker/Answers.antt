@@ -8,15 +8,15 @@ use Rattle.flk_run.specs.Parts.{platform_of, known_if}
 use Rattle.flicker_cli.specs.declared.words.Command.{Command}
 use Rattle.flicker_cli.specs.Calls.{CallRan}
 use Rattle.flicker_cli.specs.Commands.{command}
-use Rattle.flicker_cli.proofs.CallLemmas.{text_of, complete_call, answered_by_lists}
+use Rattle.flicker_cli.proofs.CallLemmas.{text_of, complete_call, answered_twice}
 use Rattle.flicker_cli.proofs.top.flicker.Goals as goal
 
-pub returns-clause-lists : goal.returns-clause-lists
-returns-clause-lists g c p stands =
+pub returns-clause-answered : goal.returns-clause-answered
+returns-clause-answered g c =
     let did = c.carry_out-end in
-    answered_by_lists (command (map string_bytes c.args.words.now)) c.status_after.result (intake g.S.Source c.args.source.now did.new.source) (output g.K.Sink c.args.out.now did.new.out) (output g.E.Sink c.args.err.now c.report-cut.new.err) p
+    answered_twice (command (map string_bytes c.args.words.now)) c.status_after.result (intake g.S.Source c.args.source.now did.new.source) (output g.K.Sink c.args.out.now did.new.out) (output g.E.Sink c.args.err.now c.report-cut.new.err)
     (known_if (is_untaken c.args.board.memory) (platform_of c.args.board [] c.args.disk empty))
-    (known_if (is_untaken c.args.board.memory) (platform_of did.result.board did.result.spans did.result.disk empty)) stands
+    (known_if (is_untaken c.args.board.memory) (platform_of did.result.board did.result.spans did.result.disk empty))
     (record { end = did.result.end; cut = c.report-cut.result; ran = did.ensures.ran; caused = did.ensures.caused; reported = c.report-cut.ensures; answer = c.status_after.ensures })
 
 pub returns-clause-text : goal.returns-clause-text

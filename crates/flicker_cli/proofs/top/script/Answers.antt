@@ -14,6 +14,6 @@ returns-clause-ran g c =
       how = c.run_script-runner.result.1;
       is = c.of_script.ensures;
       reached = platform new;
-      ran = rw c.new.ensures at c.run_script-runner.ensures.ran;
+      ran = rw c.new.ensures at c.run_script-runner.ensures.ran.digests;
       left = rw (c.finish-board.ensures.board, c.finish-board.ensures.disk, c.finish-board.ensures.spans) (names_given_up (is_untaken c.args.board.memory) new (c.run_script-runner.ensures.untaken ∙ ap (λ (e : Experiment). e.untaken) c.new.ensures));
     }
