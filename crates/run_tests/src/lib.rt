@@ -14,4 +14,6 @@ mod regions;
 #[cfg(test)]
 mod runs;
 #[cfg(test)]
+mod sealing;
+#[cfg(test)]
 mod sessions;
