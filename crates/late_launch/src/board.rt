@@ -1,10 +1,10 @@
 //! The board.
-ghost use Rattle.std.specs.Prelude.{◌≡◌, ◌≤◌, ◌++◌, IfOk, Some};
+ghost use Rattle.std.specs.Prelude.{◌≡◌, ◌≤◌, ◌++◌, IfOk};
 ghost use Rattle.flk_base.specs.Plan.{ask};
 ghost use Rattle.flk_base.specs.Stop.{Ends, reported, reported_into};
 ghost use Rattle.seal_device.specs.Commands.{Command, act};
 ghost use Rattle.seal_device.specs.Digests.{digests, on_device};
-ghost use Rattle.seal_device.specs.Faults.{provisioned, register_fault, unseal_fault};
+ghost use Rattle.seal_device.specs.Faults.{provision_answer, register_fault, unseal_fault};
 ghost use Rattle.machine_memory.specs.Areas.{IsArea};
 ghost use Rattle.late_launch.specs.Boards.{blank_board, zero_registers, fused_device, fallen};
 
@@ -121,9 +121,10 @@ impl Board {
     ///
     /// Where the device has a seed, and nothing changes.
     pub fn provision(&mut self, seed: &[u8]) -> Result<(), Provisioned>
-        ensures ends { let end = act digests (Command.Provision seed.now) self.old.device in
-            Ends (reported provisioned (record {})) (end.0, Some end.1) self.new.device result }
-        ensures others { self.new ≡ record self.old { device = self.new.device } }
+        ensures device { self.new ≡ record self.old {
+          device = (act digests (Command.Provision seed.now) self.old.device).0;
+        } }
+        ensures answer { result ≡ provision_answer (act digests (Command.Provision seed.now) self.old.device).1 }
     {
         self.device.provision(seed)
     }
