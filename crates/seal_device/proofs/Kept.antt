@@ -1,8 +1,9 @@
 -- A record that was sealed stays on a device of lists, and its blob opens to it.
-use Rattle.std.proofs.Common.{◌≡◌, ◌≢◌, ℕ, List, [], ◌∷◌, map, Bool, true}
+use Rattle.std.proofs.Common.{◌≡◌, ◌≢◌, ℕ, List, [], ◌∷◌, map, get_or, inl, inr, Bool, true}
 use Rattle.std.proofs.Common.{false, Option, Some, None, refl, sym, ap, ◌∙◌, subst, arith, Contains}
 use Rattle.std.specs.Prelude.{IfSome, Result, Ok, Err, slice_get}
-use Rattle.std.proofs.lemmas.List.{length-map, get_or-map}
+use Rattle.std.proofs.lemmas.List.{length-map, get_or-map, get_or_default}
+use Rattle.std.proofs.lemmas.Bool.{cases_lt}
 use Rattle.std.proofs.lemmas.List.Elements.{All-contains, Contains-append_left, Contains-push}
 use Rattle.flk_base.specs.Plan.{Plan, run}
 use Rattle.flk_base.specs.PlanLaws.{plans_keep}
@@ -18,7 +19,7 @@ use Rattle.seal_device.specs.Commands.{Command, Provision, Measure, Extend, Read
 use Rattle.seal_device.specs.Commands.{PowerOn, Reply, act, extend, costs}
 use Rattle.seal_device.specs.Ledger.{Ledger, noted}
 use Rattle.seal_device.specs.Lists.{ListDevice, lists, same_chain, blob_of, record_of, OpensTo}
-use Rattle.seal_device.specs.Agreement.{Noted}
+use Rattle.seal_device.specs.Agreement.{Noted, SerialsRise}
 use Rattle.seal_device.specs.Refusals.Seal as seals
 use Rattle.seal_device.specs.Refusals.Unseal as unseals
 use Rattle.seal_device.proofs.Known.{stays_noted}
@@ -79,6 +80,23 @@ image_in : {X Y : Type 0} (f : X → Y) (xs : List X) (x : X) → Contains xs x 
 image_in f xs x (k, l, is) =
     (k, (let long = length-map xs f in omega arith), get_or-map f xs k x (f x) l ∙ ap f is)
 
+-- where serials rise, two records with one serial are one
+same_serial : (made : List (Sealed Chain)) (one other : Sealed Chain) → SerialsRise made →
+    Contains made one → Contains made other → one.serial ≡ other.serial → one ≡ other
+same_serial made one other rise (k, l, is) (k', l', is') same =
+    let at : get_or made k' one ≡ other = get_or_default made k' one other l' ∙ is' in
+    let first = ap (λ (r : Sealed Chain). r.serial) is in
+    let second = ap (λ (r : Sealed Chain). r.serial) at in
+    elim (cases_lt k k') [
+      | inl low ↦ absurd (omega (arith, rise k k' one low l'))
+      | inr high ↦ elim (cases_lt k' k) [
+        | inl low ↦ absurd (omega (arith, rise k' k one low l))
+        | inr high' ↦
+            let place : k ≡ k' = omega arith in
+            sym is ∙ ap (λ (i : ℕ). get_or made i one) place ∙ at
+      ]
+    ]
+
 -- the record that is found for the blob of one that is kept is that one
 found_again : (d : ListDevice) (ledger : Ledger) (keys : Keys) (r : Sealed Chain) →
     Noted d ledger → Contains d.made r → record_of keys d.made (blob_of keys r) ≡ Some r
@@ -94,7 +112,7 @@ found_again d ledger keys r noted there =
     ∙ parsed-blob_of keys r fits in
     let shown : with_chain_by value s ≡ with_chain_by value r = cc in
     let serials = ap (λ (x : Sealed (List ℕ)). x.serial) shown in
-    one.3 ∙ ap (λ (x : Sealed Chain). Some x) (noted.apart s r one.1 there serials)
+    one.3 ∙ ap (λ (x : Sealed Chain). Some x) (same_serial d.made s r noted.rise one.1 there serials)
 
 -- what unsealing comes to with these keys
 pub unseal_with : (d : ListDevice) (keys : Keys) (bytes : List ℕ) → d.keys ≡ Some keys →

@@ -1,15 +1,17 @@
 -- The ledger has what a device of lists knows, after each command.
-use Rattle.std.proofs.Common.{◌≡◌, ℕ, zero, suc, ◌+◌, ◌<◌, ◌≤◌, List, [], ◌∷◌, ◌++◌, Bool}
+use Rattle.std.proofs.Common.{◌≡◌, ◌-◌, ℕ, zero, suc, ◌+◌, ◌<◌, ◌≤◌, List, [], ◌∷◌, ◌++◌, Bool}
 use Rattle.std.proofs.Common.{true, false, eqb, ltb, Option, Some, None, refl, sym, ap, ◌∙◌, subst}
 use Rattle.std.proofs.Common.{inl, inr, length, map, get_or, All, Contains, arith}
 use Rattle.std.specs.Prelude.{slice_get, is_some}
 use Rattle.std.proofs.lemmas.Bool.{ltb-false, eqb-false}
 use Rattle.std.proofs.lemmas.Option.{slice_get_within, get_or_from_slice_get}
 use Rattle.std.proofs.lemmas.List.Elements.{All-set, All-map, All-append, All-push, All-tail}
-use Rattle.std.proofs.lemmas.List.Elements.{All-weaker, All-contains, All-contains_itself}
+use Rattle.std.proofs.lemmas.List.Elements.{All-weaker, All-contains_itself}
 use Rattle.std.proofs.lemmas.List.Elements.{Contains-append_left, Contains-append_right}
-use Rattle.std.proofs.lemmas.List.Elements.{Contains-push_cases}
+use Rattle.std.proofs.lemmas.Bool.{cases_lt}
 use Rattle.std.proofs.lemmas.List.{length-set, get_or-set_same, append-nil, map-append}
+use Rattle.std.proofs.lemmas.List.{get_or_append_left, get_or-append_right}
+use Rattle.std.proofs.Common.{length-append}
 use Rattle.tpm_state.specs.Chain.{Start, Chain, From, ◌▷◌, value, start_value, power_start}
 use Rattle.tpm_state.specs.Chain.{register_numbers, register_count}
 use Rattle.seal_device.specs.Keys.{Keys, keys_of}
@@ -22,7 +24,7 @@ use Rattle.seal_device.specs.Commands.{PowerOn, act, extend, with_chain, first_c
 use Rattle.seal_device.specs.Ledger.{Ledger, ledger_after, hashed_by, strings_to_extend, strings_at}
 use Rattle.seal_device.specs.Ledger.{if_given, no_ledger}
 use Rattle.seal_device.specs.Lists.{ListDevice, lists, blob_of}
-use Rattle.seal_device.specs.Agreement.{Knows, Noted, strings, blobs, SerialsApart}
+use Rattle.seal_device.specs.Agreement.{Knows, Noted, strings, blobs, SerialsRise}
 use Rattle.seal_device.specs.Refusals.Seal as seals
 use Rattle.seal_device.specs.Refusals.Unseal as unseals
 
@@ -55,7 +57,7 @@ still_noted d ledger more noted =
       no_keys = noted.no_keys;
       in_range = noted.in_range;
       serials = noted.serials;
-      apart = noted.apart;
+      rise = noted.rise;
       next = noted.next;
     }
 
@@ -70,7 +72,7 @@ chains_noted d ledger chains noted known =
       no_keys = noted.no_keys;
       in_range = noted.in_range;
       serials = noted.serials;
-      apart = noted.apart;
+      rise = noted.rise;
       next = noted.next;
     }
 
@@ -149,7 +151,7 @@ blank_noted =
       no_keys = λ none. refl;
       in_range = λ k e l. absurd (omega arith);
       serials = λ k e l. absurd (omega arith);
-      apart = λ one other there here same. absurd (let none = there.1 in omega arith);
+      rise = λ i j r low there. absurd (omega arith);
       next = omega arith;
     }
 
@@ -172,32 +174,29 @@ provision_noted seed d ledger noted = by_keys d.keys refl where
         no_keys = λ never. none;
         in_range = noted.in_range;
         serials = noted.serials;
-        apart = noted.apart;
+        rise = noted.rise;
         next = noted.next;
       })
 
 -- ---- sealing
 
--- a serial above all of the records stays apart from them
-apart_more : (made : List (Sealed Chain)) (r : Sealed Chain) → SerialsApart made →
-    All (λ s. s.serial < r.serial) made → SerialsApart (made ++ r ∷ [])
-apart_more made r apart below one other there here same =
-    elim (Contains-push_cases made r one there) [
-      | inl old ↦ elim (Contains-push_cases made r other here) [
-        | inl old' ↦ apart one other old old' same
-        | inr new' ↦
-            let low = All-contains (λ (s : Sealed Chain). s.serial < r.serial) made one below old in
-            let top = ap (λ (s : Sealed Chain). s.serial) new' in
-            absurd (omega arith)
-      ]
-      | inr new ↦ elim (Contains-push_cases made r other here) [
-        | inl old' ↦
-            let low = All-contains (λ (s : Sealed Chain). s.serial < r.serial) made other below
-            old' in
-            let top = ap (λ (s : Sealed Chain). s.serial) new in
-            absurd (omega arith)
-        | inr new' ↦ sym new ∙ new'
-      ]
+-- serials rise up to one above all of them
+rise_more : (made : List (Sealed Chain)) (r : Sealed Chain) → SerialsRise made →
+    All (λ s. s.serial < r.serial) made → SerialsRise (made ++ r ∷ [])
+rise_more made r rise below i j d low there =
+    let long = length-append made (r ∷ []) in
+    elim (cases_lt j (length made)) [
+      | inl inside ↦
+          rw (
+            get_or_append_left made (r ∷ []) d i (omega arith),
+            get_or_append_left made (r ∷ []) d j inside,
+          ) (rise i j d low inside)
+      | inr last ↦
+          let place : j - length made ≡ 0 = omega arith in
+          let at : get_or (made ++ r ∷ []) j d ≡ r =
+          get_or-append_right made (r ∷ []) (length made) j d refl last
+          ∙ ap (λ (k : ℕ). get_or (r ∷ []) k d) place in
+          rw (get_or_append_left made (r ∷ []) d i (omega arith), at) (below i d (omega arith))
     ]
 
 -- a record more, in register 17's chain
@@ -228,7 +227,7 @@ record_noted bytes d ledger keys is noted short below =
           (All-weaker (λ s. s.serial < d.serial) (λ s. s.serial < d.serial + 1)
           (λ s low. omega arith) d.made noted.serials)
           (omega arith);
-      apart = apart_more d.made r noted.apart noted.serials;
+      rise = rise_more d.made r noted.rise noted.serials;
       next = omega arith;
     }
 

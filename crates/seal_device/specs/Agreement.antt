@@ -1,6 +1,6 @@
 -- When a device of lists and one of digests agree.
-use Rattle.std.specs.Prelude.{◌≡◌, ◌<◌, ◌^◌, false, List, [], ℕ, ◌++◌, map, All, Contains}
-use Rattle.std.specs.Prelude.{Option, Some, None}
+use Rattle.std.specs.Prelude.{◌≡◌, ◌<◌, ◌^◌, false, List, [], ℕ, ◌++◌, map, length, All, Contains}
+use Rattle.std.specs.Prelude.{Option, Some, None, slice_index_or}
 use Rattle.tpm_state.specs.Chain.{Chain, From, ◌▷◌, value}
 use Rattle.flk_base.specs.Plan.{Plan, Throughout, GivesOnly}
 use Rattle.flk_base.specs.Stop.{Fused, with_fuse}
@@ -46,15 +46,15 @@ blobs (Some keys) made = map (blob_of keys) made
 abbrev pub InLedger : Ledger → Chain → Type 0
 InLedger ledger chain = All (Contains ledger.hashed) (strings chain)
 
--- two records with one serial are one
-abbrev pub SerialsApart : List (Sealed Chain) → Type 0
-SerialsApart made =
-    (one other : Sealed Chain) → Contains made one → Contains made other →
-    one.serial ≡ other.serial → one ≡ other
+-- each record has a lower serial than those that were sealed after it
+abbrev pub SerialsRise : List (Sealed Chain) → Type 0
+SerialsRise made =
+    (i j : ℕ) (r : Sealed Chain) → i < j → j < length made →
+    (slice_index_or made i r).serial < (slice_index_or made j r).serial
 
 -- the ledger has what a device of lists knows: the strings of each of its chains and records, and
 -- the blobs of the records in their order. Without keys there is no record; the numbers of each are
--- in their ranges, its serial is below the next one, and no two have one serial
+-- in their ranges, and their serials rise, up to the next one
 pub record Noted (d : ListDevice) (ledger : Ledger) : Type 0 where
   pub chains : All (InLedger ledger) d.chains
   pub records : All (λ r. InLedger ledger r.chain) d.made
@@ -62,7 +62,7 @@ pub record Noted (d : ListDevice) (ledger : Ledger) : Type 0 where
   pub no_keys : d.keys ≡ None → d.made ≡ []
   pub in_range : All InRange d.made
   pub serials : All (λ r. r.serial < d.serial) d.made
-  pub apart : SerialsApart d.made
+  pub rise : SerialsRise d.made
   pub next : d.serial < 2 ^ 64
 
 -- a device of lists stands for one of digests, and they have one ledger, with all that the first

@@ -33,8 +33,9 @@ pub fn digested_is_a_homomorphism<X>()
 {}
 
 /// The ledger has what a device of lists knows after each command, and after each plan, wherever
-/// its fuse stops it. An empty one has what a device knows that was never used. What a command adds
-/// to it the device knows after it.
+/// its fuse stops it: the strings of its chains and of its records, and the records' blobs. An
+/// empty one has what a device knows that was never used. What strings a command adds to it the
+/// device knows after it.
 pub fn ledger_has_what_is_known<X>()
     ensures command { (c : Command) (d : ListDevice) (ledger : Ledger) → Noted d ledger →
         Noted (noted lists c (d, ledger)).0.0 (noted lists c (d, ledger)).0.1 }
