@@ -3,17 +3,14 @@ use Rattle.std.proofs.Common.{◌≡◌, ℕ, List, [], ◌∷◌, ◌++◌, len
 use Rattle.std.proofs.Common.{arith}
 use Rattle.std.proofs.lemmas.List.Elements.{All-contains, All-contains_itself, Contains-append_left}
 use Rattle.std.proofs.lemmas.List.Elements.{Contains-append_right}
-use Rattle.sha1.specs.Sha1.{sha1, digest_bytes}
+use Rattle.sha1.specs.Sha1.{sha1}
+use Rattle.flk_hmac.proofs.MacLengths.{length-sha1}
 use Rattle.tpm_state.specs.Chain.{Start, Zeros, Ones, Chain, From, ◌▷◌, value, start_value}
 use Rattle.seal_device.specs.Ledger.{Clean, strings_to_extend}
 use Rattle.seal_device.specs.Agreement.{strings}
 use Rattle.seal_device.proofs.Known.{Hashed}
 
--- a digest has 20 bytes, and so has a value
-length-sha1 : (text : List ℕ) → length (sha1 text) ≡ 20
-unfolding sha1 digest_bytes
-length-sha1 text = refl
-
+-- a value has 20 bytes
 pub length-value : (chain : Chain) → length (value chain) ≡ 20
 length-value (From Zeros) = refl
 length-value (From Ones) = refl
