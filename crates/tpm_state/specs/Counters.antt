@@ -127,3 +127,7 @@ counter_map f counter = record { owner = f counter.owner; value = counter.value 
 abbrev pub counters_map : {O P : Type 0} → (O → P) → Counters O → Counters P
 counters_map f c =
     record { slots = map (option_map (counter_map f)) c.slots; largest = c.largest }
+
+-- what a call comes to, with each owner made another
+abbrev pub reply_map : {O P X : Type 0} → (O → P) → Counters O × X → Counters P × X
+reply_map f end = (counters_map f end.0, end.1)
