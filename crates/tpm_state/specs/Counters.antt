@@ -1,7 +1,8 @@
 -- Monotonic counters: numbers that are only ever incremented, each by its owner alone (TPM 1.2,
 -- part 3, TPM_CreateCounter, TPM_IncrementCounter, TPM_ReadCounter). O is what an owner is kept as:
 -- all the texts of a register, or the 20 bytes that it shows.
-use Rattle.std.specs.Prelude.{◌≡◌, ℕ, ◌+◌, ◌-◌, ◌^◌, ◌≤◌, max, Bool, ◌==◌, List, length, replicate}
+use Rattle.std.specs.Prelude.{◌≡◌, ◌≢◌, ℕ, ◌+◌, ◌-◌, ◌^◌, ◌<◌, ◌≤◌, max, Bool, true, ◌==◌, List}
+use Rattle.std.specs.Prelude.{length, replicate, is_some}
 use Rattle.std.specs.Prelude.{map, position, slice_index_or, slice_set, if◌then◌else◌}
 use Rattle.std.specs.Prelude.{Option, Some, None, is_none, option_map, Result, Ok, Err}
 use Rattle.tpm_state.specs.Refusals.Create as creates
@@ -116,6 +117,39 @@ pub record Grew {O : Type 0} (before after : Counters O) : Type 0 where
   pub stay : (id : ℕ) (counter : Counter O) →
       counter_at before id ≡ Some counter → Stays counter id after
   pub largest : before.largest ≤ after.largest
+
+-- every id is in use
+abbrev pub AllInUse : {O : Type 0} → Counters O → Type 0
+AllInUse c = (id : ℕ) → id < length c.slots → is_some (counter_at c id) ≡ true
+
+-- an id is the lowest unused one: it is unused, and each below it is in use
+pub record IsLowest {O : Type 0} (c : Counters O) (id : ℕ) : Type 0 where
+  pub low : id < length c.slots
+  pub unused : counter_at c id ≡ None
+  pub before : (k : ℕ) → k < id → is_some (counter_at c k) ≡ true
+
+-- what a creation did that gave an id: the lowest unused one now has a counter of this owner, one
+-- above the largest value so far; nothing else changed
+pub record Created {O : Type 0} (owner : O) (before : Counters O) (id : ℕ) (after : Counters O) :
+    Type 0
+  where
+    pub lowest : IsLowest before id
+    pub new : counter_at after id ≡ Some (new_counter owner before)
+    pub others : (other : ℕ) → other ≢ id → counter_at after other ≡ counter_at before other
+    pub largest : after.largest ≡ before.largest + 1
+
+-- what an increment did that gave a value: the counter is one of who asked, and the value one above
+-- its old one; nothing else changed
+pub record Incremented {O : Type 0} (same : O → O → Bool) (id : ℕ) (who : O) (before : Counters O)
+    (value : ℕ) (after : Counters O) : Type 0
+  where
+    pub counter : Counter O
+    pub was : counter_at before id ≡ Some counter
+    pub own : same counter.owner who ≡ true
+    pub one_above : value ≡ counter.value + 1
+    pub is : counter_at after id ≡ Some (next counter)
+    pub others : (other : ℕ) → other ≢ id → counter_at after other ≡ counter_at before other
+    pub largest : after.largest ≡ max before.largest value
 
 -- ---- other owners
 

@@ -4,6 +4,11 @@
 
 mod bank;
 mod counters;
+mod laws;
 
 pub use bank::{Bank, NoRegister};
 pub use counters::{CounterFault, Counters};
+pub use laws::{
+    calls_by_counters, counters_by_owners, counters_only_grow, counters_stay_in_range,
+    numbers_are_given_once,
+};
