@@ -7,6 +7,8 @@ mod blobs;
 #[cfg(test)]
 mod bytes;
 #[cfg(test)]
+mod counters;
+#[cfg(test)]
 mod device;
 #[cfg(test)]
 mod edges;
