@@ -2,6 +2,8 @@
 use Rattle.std.specs.Prelude.{◌≡◌, ◌<◌, ◌^◌, false, List, [], ℕ, ◌++◌, map, length, All, Contains}
 use Rattle.std.specs.Prelude.{Option, Some, None, slice_index_or}
 use Rattle.tpm_state.specs.Chain.{Chain, From, ◌▷◌, value}
+use Rattle.tpm_state.specs.Counters.{Counter, Counters, counter_at, counters_map}
+use Rattle.tpm_state.specs.Counters as counting
 use Rattle.flk_base.specs.Plan.{Plan, Throughout, GivesOnly}
 use Rattle.flk_base.specs.Stop.{Fused, with_fuse}
 use Rattle.seal_device.specs.Keys.{Keys}
@@ -13,8 +15,14 @@ use Rattle.seal_device.specs.Lists.{ListDevice, blob_of}
 
 -- the device of digests that a device of lists stands for
 abbrev pub digested : ListDevice → DigestDevice
-digested d =
-    record { chains = map value d.chains; keys = d.keys; serial = d.serial; made = tt }
+digested d = record {
+  chains = map value d.chains;
+  counters = counters_map value d.counters;
+  keys = d.keys;
+  serial = d.serial;
+  drawn = d.drawn;
+  made = tt;
+}
 
 -- a device of lists by digests, beside the reply to a command
 abbrev pub reply_digested : {X : Type 0} → ListDevice × X → DigestDevice × X
@@ -46,17 +54,25 @@ blobs (Some keys) made = map (blob_of keys) made
 abbrev pub InLedger : Ledger → Chain → Type 0
 InLedger ledger chain = All (Contains ledger.hashed) (strings chain)
 
+-- the strings of each counter's owner are in the ledger
+abbrev pub OwnersInLedger : Ledger → Counters Chain → Type 0
+OwnersInLedger ledger c =
+    (id : ℕ) (counter : Counter Chain) → counter_at c id ≡ Some counter →
+    InLedger ledger counter.owner
+
 -- each record has a lower serial than those that were sealed after it
 abbrev pub SerialsRise : List (Sealed Chain) → Type 0
 SerialsRise made =
     (i j : ℕ) (r : Sealed Chain) → i < j → j < length made →
     (slice_index_or made i r).serial < (slice_index_or made j r).serial
 
--- the ledger has what a device of lists knows: the strings of each of its chains and records, and
--- the blobs of the records in their order. Without keys there is no record; the numbers of each are
--- in their ranges, and their serials rise, up to the next one
+-- the ledger has what a device of lists knows: the strings of each of its chains, counters' owners
+-- and records, and the blobs of the records in their order. Without keys there is no record; the
+-- numbers of counters and records are in their ranges, and serials rise, up to the next one
 pub record Noted (d : ListDevice) (ledger : Ledger) : Type 0 where
   pub chains : All (InLedger ledger) d.chains
+  pub owners : OwnersInLedger ledger d.counters
+  pub counters : counting.InRange d.counters
   pub records : All (λ r. InLedger ledger r.chain) d.made
   pub made : blobs d.keys d.made ≡ ledger.made
   pub no_keys : d.keys ≡ None → d.made ≡ []

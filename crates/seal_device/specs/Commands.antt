@@ -2,18 +2,25 @@
 use Rattle.std.specs.Prelude.{ℕ, List, map, Bool, true, false, Option, Some, None, Result, Ok, Err}
 use Rattle.std.specs.Prelude.{slice_get, slice_set}
 use Rattle.tpm_state.specs.Chain.{power_start, register_numbers}
+use Rattle.tpm_state.specs.Counters.{Counters, no_counters, create, read, increment}
+use Rattle.tpm_state.specs.Refusals.Create as creates
+use Rattle.tpm_state.specs.Refusals.ReadCounter as reads
+use Rattle.tpm_state.specs.Refusals.Increment as increments
 use Rattle.seal_device.specs.Keys.{keys_of}
 use Rattle.seal_device.specs.Rules.{Device, Rules}
 pub use Rattle.seal_device.specs.Rules.{launch_register, launch_start}
-use Rattle.seal_device.specs.Sealing.{provision, with_keys, seal, unseal}
+use Rattle.seal_device.specs.Sealing.{provision, with_keys, present_chain, seal, unseal, check_next}
+use Rattle.seal_device.specs.Drawing.{draw}
 use Rattle.seal_device.specs.Refusals.Register as registers
 use Rattle.seal_device.specs.Refusals.Seed as seeds
 use Rattle.seal_device.specs.Refusals.Seal as seals
 use Rattle.seal_device.specs.Refusals.Unseal as unseals
+use Rattle.seal_device.specs.Refusals.Random as randoms
 
 -- a command to a device: take a seed, measure an image, extend a register by a text, read a
--- register, seal bytes (by a counter, and for its next value, where that is asked), unseal a blob;
--- and power-on
+-- register; seal bytes (by a counter, and for its next value, where that is asked), unseal a blob,
+-- try it for the next value of its counter; create a counter, read it, increment it; draw a random
+-- word; and power-on
 pub data Command : Type 0 where
   Provision : (seed : List ℕ) → Command
   Measure : (image : List ℕ) → Command
@@ -21,6 +28,11 @@ pub data Command : Type 0 where
   ReadRegister : (r : ℕ) → Command
   Seal : (bytes : List ℕ) (counter : Option ℕ) (ahead : Bool) → Command
   Unseal : (bytes : List ℕ) → Command
+  CheckNext : (bytes : List ℕ) → Command
+  NewCounter : Command
+  ReadCounter : (id : ℕ) → Command
+  Increment : (id : ℕ) → Command
+  Random : Command
   PowerOn : Command
 
 -- the commands that take a step of the fuse: all but power-on and the taking of a seed
@@ -32,6 +44,8 @@ costs _ = true
 -- the commands that compare digests or tags
 abbrev pub compares : Command → Bool
 compares (Unseal bytes) = true
+compares (CheckNext bytes) = true
+compares (Increment id) = true
 compares _ = false
 
 -- the reply to a command, where the power is there
@@ -42,6 +56,11 @@ Reply (Extend r text) = Result (Unit {0}) registers.Refusal
 Reply (ReadRegister r) = Result (List ℕ) registers.Refusal
 Reply (Seal bytes counter ahead) = Result (List ℕ) seals.Refusal
 Reply (Unseal bytes) = Result (List ℕ) unseals.Refusal
+Reply (CheckNext bytes) = Result ℕ unseals.Refusal
+Reply NewCounter = Result ℕ creates.Refusal
+Reply (ReadCounter id) = Result ℕ reads.Refusal
+Reply (Increment id) = Result ℕ increments.Refusal
+Reply Random = Result (List ℕ) randoms.Refusal
 Reply PowerOn = Unit {0}
 
 -- the chains at power-on
@@ -62,6 +81,10 @@ abbrev pub extend : {H M : Type 0} → Rules H M → ℕ → List ℕ → Device
 extend R r text d None = (d, Err registers.NoRegister)
 extend R r text d (Some chain) = (with_chain d r (R.extended chain text), Ok tt)
 
+-- a device with what became of its counters, beside the reply
+abbrev pub with_counters : {H M X : Type 0} → Device H M → Counters H × X → Device H M × X
+with_counters d end = (record d { counters = end.0 }, end.1)
+
 -- what is shown of something, where it is there, and else this refusal
 abbrev pub or_refused : {A X E : Type 0} → E → (A → X) → Option A → Result X E
 or_refused refusal show None = Err refusal
@@ -74,10 +97,23 @@ act R (Measure image) d = (with_image R image d, tt)
 act R (Extend r text) d = extend R r text d (slice_get d.chains r)
 act R (ReadRegister r) d = (d, or_refused registers.NoRegister R.shown (slice_get d.chains r))
 act R (Seal bytes counter ahead) d =
-    with_keys seals.Unprovisioned d (seal R bytes counter d) d.keys
+    with_keys seals.Unprovisioned d (seal R bytes counter ahead d) d.keys
 act R (Unseal bytes) d = with_keys unseals.Unprovisioned d (unseal R bytes d) d.keys
+act R (CheckNext bytes) d = with_keys unseals.Unprovisioned d (check_next R bytes d) d.keys
+act R NewCounter d = with_counters d (create (present_chain R d) d.counters)
+act R (ReadCounter id) d = (d, read id d.counters)
+act R (Increment id) d =
+    with_counters d (increment R.same id (present_chain R d) d.counters)
+act R Random d = with_keys randoms.Unprovisioned d (draw d) d.keys
 act R PowerOn d = (record d { chains = first_chains R }, tt)
 
 -- a device that was never used
 abbrev pub blank : {H M : Type 0} → Rules H M → Device H M
-blank R = record { chains = first_chains R; keys = None; serial = 0; made = R.nothing_made }
+blank R = record {
+  chains = first_chains R;
+  counters = no_counters;
+  keys = None;
+  serial = 0;
+  drawn = 0;
+  made = R.nothing_made;
+}

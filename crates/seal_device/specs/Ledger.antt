@@ -8,7 +8,8 @@ use Rattle.flk_base.specs.Plan.{Machine}
 use Rattle.seal_device.specs.Keys.{Keys}
 use Rattle.seal_device.specs.Blobs.{tag_ok}
 use Rattle.seal_device.specs.Rules.{Device, Rules}
-use Rattle.seal_device.specs.Commands.{Command, Measure, Extend, Seal, Unseal, Reply, act, compares}
+use Rattle.seal_device.specs.Commands.{Command, Measure, Extend, Seal, Unseal, CheckNext, Reply, act}
+use Rattle.seal_device.specs.Commands.{compares}
 use Rattle.seal_device.specs.Commands.{launch_start}
 
 -- the strings that were hashed for registers so far, and the blobs that sealing gave
@@ -69,6 +70,7 @@ WasMade keys bytes ledger =
 -- no blob is forged that a command is shown
 abbrev pub Unforged : {H M : Type 0} → Command → Device H M × Ledger → Type 0
 Unforged (Unseal bytes) w = WasMade w.0.keys bytes w.1
+Unforged (CheckNext bytes) w = WasMade w.0.keys bytes w.1
 Unforged _ w = ⊤
 
 -- a command is fair where it compares nothing, or the strings hashed up to and with it are clean

@@ -3,7 +3,9 @@ pub mod Keys
 pub mod Sealed
 pub mod Blobs
 pub mod Rules
+pub mod Bearings
 pub mod Sealing
+pub mod Drawing
 pub mod Commands
 pub mod Digests
 pub mod Ledger

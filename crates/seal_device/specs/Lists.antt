@@ -1,13 +1,14 @@
 -- The platform of lists: a chain is kept as its start and all its texts, and each record that was
 -- sealed is kept. A blob is never read, and no digest is compared.
-use Rattle.std.specs.Prelude.{◌≡◌, ℕ, Bool, true, false, ◌&&◌, List, [], ◌∷◌, ◌++◌, Option, Some, None}
-use Rattle.std.specs.Prelude.{Contains, bytes_eq}
+use Rattle.std.specs.Prelude.{◌≡◌, ℕ, Bool, true, false, ◌&&◌, List, [], ◌∷◌, ◌++◌, Option, Some}
+use Rattle.std.specs.Prelude.{Contains, IfSome, bytes_eq}
 use Rattle.std.specs.List.{find}
 use Rattle.tpm_state.specs.Chain.{Start, Zeros, Ones, Chain, From, ◌▷◌, value}
 use Rattle.seal_device.specs.Keys.{Keys}
 use Rattle.seal_device.specs.Sealed.{Sealed, with_chain_by}
 use Rattle.seal_device.specs.Blobs.{blob}
 use Rattle.seal_device.specs.Rules.{Device, Rules}
+use Rattle.seal_device.specs.Bearings.{Stands}
 use Rattle.seal_device.specs.Sealing.{present_chain}
 
 -- a device that keeps all texts of each register, and all records that were sealed
@@ -47,7 +48,7 @@ lists = record {
 }
 
 -- bytes open to what they are the blob of: a record that the device keeps, under its keys, in whose
--- chain register 17 stands
+-- chain register 17 stands, and with whose value the counter that it bears, if it bears one
 pub record OpensTo (d : ListDevice) (bytes content : List ℕ) : Type 0 where
   pub keys : Keys
   pub sealed : Sealed Chain
@@ -55,5 +56,5 @@ pub record OpensTo (d : ListDevice) (bytes content : List ℕ) : Type 0 where
   pub kept : Contains d.made sealed
   pub is : blob_of keys sealed ≡ bytes
   pub chain : sealed.chain ≡ present_chain lists d
-  pub no_counter : sealed.counter ≡ None
+  pub counter : IfSome sealed.counter (Stands d.counters)
   pub bytes_are : sealed.bytes ≡ content

@@ -4,3 +4,4 @@ pub mod Register
 pub mod Seed
 pub mod Seal
 pub mod Unseal
+pub mod Random

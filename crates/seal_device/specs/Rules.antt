@@ -3,15 +3,19 @@
 -- that were sealed, all of them or nothing.
 use Rattle.std.specs.Prelude.{ℕ, List, Bool, Option}
 use Rattle.tpm_state.specs.Chain.{Start, Zeros}
+use Rattle.tpm_state.specs.Counters.{Counters}
 use Rattle.seal_device.specs.Keys.{Keys}
 use Rattle.seal_device.specs.Sealed.{Sealed}
 
--- a device: the chain of each register, the keys, once it has a seed, the serial of the next record
--- that is sealed, and what is kept of those that were
+-- a device: the chain of each register, the counters, each owned by a chain, the keys, once it has a
+-- seed, the serial of the next record that is sealed, how many random words were drawn, and what is
+-- kept of the records that were sealed
 pub record Device (H M : Type 0) : Type 0 where
   pub chains : List H
+  pub counters : Counters H
   pub keys : Option Keys
   pub serial : ℕ
+  pub drawn : ℕ
   pub made : M
 
 -- the rules of a platform: a chain that begins, a chain with one text more, the 20 bytes that it
@@ -26,8 +30,8 @@ pub record Rules (H M : Type 0) : Type 0 where
   pub remembered : Sealed H → M → M
   pub opened : Keys → M → List ℕ → Option (Sealed H)
 
--- the register that a late launch resets, to whose chain records are bound (AMD64 manual, volume 2,
--- SKINIT)
+-- the register that a late launch resets, whose chain records are bound to and counters are owned by
+-- (AMD64 manual, volume 2, SKINIT)
 abbrev pub launch_register : ℕ
 launch_register = 17
 

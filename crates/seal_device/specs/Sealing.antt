@@ -1,11 +1,13 @@
 -- Seeding, sealing and unsealing, by the rules of any platform.
-use Rattle.std.specs.Prelude.{ℕ, ◌+◌, ◌-◌, ◌^◌, Bool, true, false, ◌==◌, nat_lt, List, length}
-use Rattle.std.specs.Prelude.{slice_index_or, Option, Some, None, is_some, Result, Ok, Err}
-use Rattle.std.specs.Prelude.{if◌then◌else◌}
+use Rattle.std.specs.Prelude.{ℕ, ◌+◌, ◌-◌, ◌^◌, Bool, ◌==◌, nat_lt, List, length}
+use Rattle.std.specs.Prelude.{slice_index_or, Option, Some, None, Result, Ok, Err, if◌then◌else◌}
+use Rattle.std.specs.Option.{ok_or}
+use Rattle.tpm_state.specs.Counters.{Counters}
 use Rattle.seal_device.specs.Keys.{Keys}
 use Rattle.seal_device.specs.Sealed.{Bearing, Sealed, with_chain_by, longest_sealed}
 use Rattle.seal_device.specs.Blobs.{blob}
 use Rattle.seal_device.specs.Rules.{Device, Rules, launch_register, launch_start}
+use Rattle.seal_device.specs.Bearings.{bearing, content, awaited}
 use Rattle.seal_device.specs.Refusals.Seed as seeds
 use Rattle.seal_device.specs.Refusals.Seal as seals
 use Rattle.seal_device.specs.Refusals.Unseal as unseals
@@ -32,60 +34,69 @@ present_chain R d = slice_index_or d.chains launch_register (R.start launch_star
 abbrev pub last_serial : ℕ
 last_serial = 2 ^ 64 - 1
 
--- why bytes are not sealed, if they are not: the first that holds. No counter is in use
-abbrev pub seal_refusal : ℕ → List ℕ → Option ℕ → Option seals.Refusal
-seal_refusal serial bytes counter =
-    if nat_lt longest_sealed (length bytes)
-    then Some seals.TooLong
-    else (if is_some counter
-    then Some seals.NoCounter
-    else (if serial == last_serial then Some seals.SerialEnd else None))
+-- what is borne under this serial, where it is not the last one
+abbrev pub unless_last : ℕ → Result (Option Bearing) seals.Refusal →
+    Result (Option Bearing) seals.Refusal
+unless_last serial (Err refusal) = Err refusal
+unless_last serial (Ok borne) = if serial == last_serial then Err seals.SerialEnd else Ok borne
 
--- the record of bytes that are sealed now
-abbrev pub new_record : {H M : Type 0} → Rules H M → List ℕ → Device H M → Sealed H
-new_record R bytes d =
-    record { serial = d.serial; chain = present_chain R d; counter = None; bytes = bytes }
+-- what the record of bytes bears that are sealed now, or the first reason why they are not sealed
+abbrev pub seal_bearing : {H : Type 0} → ℕ → Counters H → List ℕ → Option ℕ → Bool →
+    Result (Option Bearing) seals.Refusal
+seal_bearing serial c bytes counter ahead =
+    if nat_lt longest_sealed (length bytes)
+    then Err seals.TooLong
+    else unless_last serial (bearing c counter ahead)
+
+-- the record of bytes that are sealed now, with what it bears
+abbrev pub new_record : {H M : Type 0} → Rules H M → List ℕ → Option Bearing → Device H M → Sealed H
+new_record R bytes borne d =
+    record { serial = d.serial; chain = present_chain R d; counter = borne; bytes = bytes }
 
 -- the device once a record was sealed
 abbrev pub with_record : {H M : Type 0} → Rules H M → Sealed H → Device H M → Device H M
 with_record R r d = record d { serial = d.serial + 1; made = R.remembered r d.made }
 
--- bytes are sealed, or refused where there is a reason
-abbrev pub seal_unless : {H M : Type 0} → Rules H M → List ℕ → Device H M → Keys →
-    Option seals.Refusal → Device H M × Result (List ℕ) seals.Refusal
-seal_unless R bytes d keys (Some refusal) = (d, Err refusal)
-seal_unless R bytes d keys None = (
-  with_record R (new_record R bytes d) d,
-  Ok (blob keys (with_chain_by R.shown (new_record R bytes d))),
+-- bytes are sealed with what their record bears, or refused where there is a reason
+abbrev pub seal_with : {H M : Type 0} → Rules H M → List ℕ → Device H M → Keys →
+    Result (Option Bearing) seals.Refusal → Device H M × Result (List ℕ) seals.Refusal
+seal_with R bytes d keys (Err refusal) = (d, Err refusal)
+seal_with R bytes d keys (Ok borne) = (
+  with_record R (new_record R bytes borne d) d,
+  Ok (blob keys (with_chain_by R.shown (new_record R bytes borne d))),
 )
 
--- bytes are sealed, under the next serial and in register 17's chain
-abbrev pub seal : {H M : Type 0} → Rules H M → List ℕ → Option ℕ → Device H M → Keys →
+-- bytes are sealed, under the next serial, in register 17's chain, and by a counter where one is
+-- asked for
+abbrev pub seal : {H M : Type 0} → Rules H M → List ℕ → Option ℕ → Bool → Device H M → Keys →
     Device H M × Result (List ℕ) seals.Refusal
-seal R bytes counter d keys = seal_unless R bytes d keys (seal_refusal d.serial bytes counter)
+seal R bytes counter ahead d keys =
+    seal_with R bytes d keys (seal_bearing d.serial d.counters bytes counter ahead)
 
 -- ---- unsealing
 
--- a counter that a record bears is in use and has its value: none is in use
-abbrev pub counter_stands : Option Bearing → Bool
-counter_stands None = true
-counter_stands (Some b) = false
-
--- a record opens in its chain, where the counter that it bears stands
-abbrev pub open_record : {H M : Type 0} → Rules H M → Device H M → Sealed H →
-    Result (List ℕ) unseals.Refusal
-open_record R d r =
+-- a record gives what is found in it, in its chain, and else says why not
+abbrev pub open_record : {H M X : Type 0} → Rules H M → Device H M → (Sealed H → Option X) →
+    Sealed H → Result X unseals.Refusal
+open_record R d found r =
     if R.same r.chain (present_chain R d)
-    then (if counter_stands r.counter then Ok r.bytes else Err unseals.WrongCounter)
+    then ok_or (found r) unseals.WrongCounter
     else Err unseals.WrongChain
 
--- the record whose blob was shown opens, if there is one
-abbrev pub open_blob : {H M : Type 0} → Rules H M → Device H M → Option (Sealed H) →
-    Result (List ℕ) unseals.Refusal
-open_blob R d None = Err unseals.NotBlob
-open_blob R d (Some r) = open_record R d r
+-- so does the record whose blob was shown, if there is one
+abbrev pub open_blob : {H M X : Type 0} → Rules H M → Device H M → (Sealed H → Option X) →
+    Option (Sealed H) → Result X unseals.Refusal
+open_blob R d found None = Err unseals.NotBlob
+open_blob R d found (Some r) = open_record R d found r
 
--- bytes are unsealed: it changes nothing
+-- bytes are unsealed, where the counter that their record bears has its value: it changes nothing
 abbrev pub unseal : {H M : Type 0} → Rules H M → List ℕ → Device H M → Keys →
     Device H M × Result (List ℕ) unseals.Refusal
-unseal R bytes d keys = (d, open_blob R d (R.opened keys d.made bytes))
+unseal R bytes d keys = (d, open_blob R d (content d.counters) (R.opened keys d.made bytes))
+
+-- bytes are tried for the next value of the counter that their record bears, whose number is
+-- answered: it changes nothing
+abbrev pub check_next : {H M : Type 0} → Rules H M → List ℕ → Device H M → Keys →
+    Device H M × Result ℕ unseals.Refusal
+check_next R bytes d keys =
+    (d, open_blob R d (λ r. awaited d.counters r.counter) (R.opened keys d.made bytes))

@@ -1,12 +1,15 @@
-// Laws of blobs and of what they open to. Each function does nothing: its clauses are laws, which are proved because they
-// stand here.
-ghost use Rattle.std.specs.Prelude.{◌≡◌, ◌≢◌, ◌↔◌, List, ℕ, Bool, length, Option, Some, Ok, Err};
-ghost use Rattle.std.specs.Prelude.{IsTrue, Contains};
+// Laws of blobs and of what they open to. Each function does nothing: its clauses are laws, which
+// are proved because they stand here.
+ghost use Rattle.std.specs.Prelude.{◌≡◌, ◌≢◌, ◌↔◌, ◌<◌, List, ℕ, Bool, length, Option, Some, Ok};
+ghost use Rattle.std.specs.Prelude.{Err, IsTrue, Contains, if◌then◌else◌};
+ghost use Rattle.std.specs.Option.{ok_or};
 ghost use Rattle.flk_base.specs.Plan.{Plan};
 ghost use Rattle.flk_base.specs.Stop.{Limit, with_fuse, fused};
 ghost use Rattle.tpm_state.specs.Chain.{Chain};
+ghost use Rattle.tpm_state.specs.Counters.{read};
 ghost use Rattle.seal_device.specs.Keys.{Keys};
-ghost use Rattle.seal_device.specs.Sealed.{Sealed, InRange};
+ghost use Rattle.seal_device.specs.Sealed.{Bearing, Sealed, InRange};
+ghost use Rattle.seal_device.specs.Bearings.{bearing, counter_stands, awaited};
 ghost use Rattle.seal_device.specs.Blobs.{blob, blob_size, tag_ok, parsed};
 ghost use Rattle.seal_device.specs.Sealing.{present_chain};
 ghost use Rattle.seal_device.specs.Commands.{Command, Reply, act, costs};
@@ -29,28 +32,59 @@ pub fn blob_law()
         length (blob keys r) ≡ blob_size (length r.bytes) }
 {}
 
-/// What a blob opens to on a device of lists. Where sealing bytes gave a blob, it opens to these
-/// bytes after whatever else is done and wherever the power is lost in it, if register 17 stands in
-/// the chain in which it stood then; in any other chain it is refused for that. Bytes that are no
-/// blob of a record that the device keeps are no blob to it. And what opens is such a record.
+/// What a blob opens to on a device of lists. Where sealing bytes gave a blob, then after whatever
+/// else is done, and wherever the power is lost in it: in any chain of register 17 but that in which
+/// it stood then, the blob is refused for that. In that chain it opens to these bytes where the
+/// counter that it bears, if it bears one, has the value that it bears; where it has another, it is
+/// refused for that. It is tried for the next value of its counter in the same way. Once the counter
+/// has passed the value, the blob never opens again. Bytes that are no blob of a record that the
+/// device keeps are no blob to it. And what opens is such a record.
 pub fn opening_law<X>()
     ensures opens { (d : ListDevice) (ledger : Ledger) (bytes : List ℕ) (counter : Option ℕ)
-        (ahead : Bool) (blob : List ℕ) (plan : Plan Command Reply X) (fuse : Limit) →
+        (ahead : Bool) (blob : List ℕ) (borne : Option Bearing) (plan : Plan Command Reply X)
+        (fuse : Limit) →
         Noted d ledger → (act lists (Command.Seal bytes counter ahead) d).1 ≡ Ok blob →
+        bearing d.counters counter ahead ≡ Ok borne →
         let sealed = (act lists (Command.Seal bytes counter ahead) d).0 in
         let later = (fused costs (act lists) plan (with_fuse sealed fuse)).0.state in
         present_chain lists later ≡ present_chain lists d →
-        act lists (Command.Unseal blob) later ≡ (later, Ok bytes) }
+        act lists (Command.Unseal blob) later ≡ (
+          later,
+          (if counter_stands later.counters borne then Ok bytes else Err unseals.WrongCounter),
+        ) }
+    ensures tried { (d : ListDevice) (ledger : Ledger) (bytes : List ℕ) (counter : Option ℕ)
+        (ahead : Bool) (blob : List ℕ) (borne : Option Bearing) (plan : Plan Command Reply X)
+        (fuse : Limit) →
+        Noted d ledger → (act lists (Command.Seal bytes counter ahead) d).1 ≡ Ok blob →
+        bearing d.counters counter ahead ≡ Ok borne →
+        let sealed = (act lists (Command.Seal bytes counter ahead) d).0 in
+        let later = (fused costs (act lists) plan (with_fuse sealed fuse)).0.state in
+        present_chain lists later ≡ present_chain lists d →
+        act lists (Command.CheckNext blob) later
+        ≡ (later, ok_or (awaited later.counters borne) unseals.WrongCounter) }
     ensures wrong_chain { (d : ListDevice) (ledger : Ledger) (bytes : List ℕ) (counter : Option ℕ)
         (ahead : Bool) (blob : List ℕ) (plan : Plan Command Reply X) (fuse : Limit) →
         Noted d ledger → (act lists (Command.Seal bytes counter ahead) d).1 ≡ Ok blob →
         let sealed = (act lists (Command.Seal bytes counter ahead) d).0 in
         let later = (fused costs (act lists) plan (with_fuse sealed fuse)).0.state in
         present_chain lists later ≢ present_chain lists d →
-        act lists (Command.Unseal blob) later ≡ (later, Err unseals.WrongChain) }
+        (act lists (Command.Unseal blob) later ≡ (later, Err unseals.WrongChain))
+        × (act lists (Command.CheckNext blob) later ≡ (later, Err unseals.WrongChain)) }
+    ensures passed { (d : ListDevice) (ledger : Ledger) (bytes : List ℕ) (counter : Option ℕ)
+        (ahead : Bool) (blob : List ℕ) (b : Bearing) (value : ℕ)
+        (plan more : Plan Command Reply X) (fuse fuse' : Limit) →
+        Noted d ledger → (act lists (Command.Seal bytes counter ahead) d).1 ≡ Ok blob →
+        bearing d.counters counter ahead ≡ Ok (Some b) →
+        let sealed = (act lists (Command.Seal bytes counter ahead) d).0 in
+        let between = (fused costs (act lists) plan (with_fuse sealed fuse)).0.state in
+        let later = (fused costs (act lists) more (with_fuse between fuse')).0.state in
+        read b.id between.counters ≡ Ok value → b.value < value →
+        present_chain lists later ≡ present_chain lists d →
+        act lists (Command.Unseal blob) later ≡ (later, Err unseals.WrongCounter) }
     ensures not_blob { (d : ListDevice) (keys : Keys) (bytes : List ℕ) → d.keys ≡ Some keys →
         ((r : Sealed Chain) → Contains d.made r → blob_of keys r ≢ bytes) →
-        act lists (Command.Unseal bytes) d ≡ (d, Err unseals.NotBlob) }
+        (act lists (Command.Unseal bytes) d ≡ (d, Err unseals.NotBlob))
+        × (act lists (Command.CheckNext bytes) d ≡ (d, Err unseals.NotBlob)) }
     ensures opened { (d : ListDevice) (bytes content : List ℕ) →
         (act lists (Command.Unseal bytes) d).1 ≡ Ok content → OpensTo d bytes content }
     ensures same { (one other : Chain) → IsTrue (same_chain one other) ↔ (one ≡ other) }

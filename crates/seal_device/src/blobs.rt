@@ -1,17 +1,13 @@
 // Blobs: what the device gives for bytes that it seals. docs/BLOBS.md has their form.
-ghost use Rattle.std.specs.Prelude.{◌≡◌, ◌↔◌, ◌<◌, ◌≤◌, length, bytes_eq, Some, None, IsTrue, IfOk};
-ghost use Rattle.std.specs.Prelude.{IfNone, IsOk, OnOk};
-ghost use Rattle.std.specs.Option.{option_map};
-ghost use Rattle.flk_base.specs.Stop.{over, reported_into};
+ghost use Rattle.std.specs.Prelude.{◌≡◌, ◌++◌, ◌≤◌, length, bytes_eq, IsTrue};
+ghost use Rattle.flk_base.specs.Stop.{over};
+ghost use Rattle.byteorder.specs.Endian.{big_bytes};
 ghost use Rattle.flk_hmac.specs.Mask.{masked_bytes};
-ghost use Rattle.seal_device.specs.Blobs.{head, blob, blob_size, serial_field, chain_field};
-ghost use Rattle.seal_device.specs.Blobs.{length_field, is_form, tag_ok, sealed_of, parsed, blob_counter};
-ghost use Rattle.seal_device.specs.Sealing.{present_chain, open_blob, seal, seal_refusal};
-ghost use Rattle.seal_device.specs.Sealing.{last_serial};
-ghost use Rattle.seal_device.specs.Digests.{DigestDevice, digests};
-ghost use Rattle.seal_device.specs.Faults.{seal_fault, unseal_fault};
+ghost use Rattle.seal_device.specs.Blobs.{head, blob, blob_size, counter_bytes, serial_field};
+ghost use Rattle.seal_device.specs.Blobs.{chain_field, length_field, is_form, tag_ok, sealed_of};
+ghost use Rattle.seal_device.specs.Blobs.{bearing_of, blob_counter};
 
-use crate::faults::{SealFault, UnsealFault};
+use crate::bearings::Borne;
 use crate::keys::Keys;
 use byteorder::{BigEndian, ByteOrder};
 use flk_hmac::{mac, mask};
@@ -52,21 +48,33 @@ pub fn blob_size(len: usize) -> usize
     HEAD_LEN + len + TAG_LEN
 }
 
-// The head of the blob of a record that bears no counter.
+// The number and the value that stand for the counter that a record bears.
+fn counter_fields(counter: Option<Borne>) -> (u8, u32)
+    ensures { big_bytes 1 result.0 ++ big_bytes 4 result.1 ≡ counter_bytes counter }
+{
+    match counter {
+        None => (NO_COUNTER, 0),
+        Some(borne) => (borne.id, borne.value),
+    }
+}
+
+// The head of the blob of a record.
 #[tactic(auto, unfolding(crate::specs::Blobs::head))]
-fn head_of(serial: u64, chain: &[u8; 20], bytes: &[u8]) -> [u8; HEAD_LEN]
+fn head_of(serial: u64, chain: &[u8; 20], counter: Option<Borne>, bytes: &[u8]) -> [u8; HEAD_LEN]
     requires { length bytes.now ≤ LONGEST_SEALED }
     ensures { result ≡ head (record {
       serial = serial;
       chain = chain.now;
-      counter = None;
+      counter = counter;
       bytes = bytes.now;
     }) }
 {
+    let (id, value) = counter_fields(counter);
     let mut head = [0; HEAD_LEN];
     head[..4].copy_from_slice(MARK);
     BigEndian::write_u64(&mut head[4..], serial);
-    head[12] = NO_COUNTER;
+    head[12] = id;
+    BigEndian::write_u32(&mut head[13..], value);
     BigEndian::write_u16(&mut head[37..], bytes.len() as u16);
     head[17..37].copy_from_slice(chain);
     head
@@ -82,12 +90,12 @@ fn mask_into(key: &[u8; 20], serial: u64, bytes: &[u8], part: &mut [u8])
     mask(key, serial, part);
 }
 
-// Writes the blob of a record that bears no counter into the buffer's first bytes, and gives its
-// length.
+// Writes the blob of a record into the buffer's first bytes, and gives its length.
 pub(crate) fn write_blob(
     keys: &Keys,
     serial: u64,
     chain: &[u8; 20],
+    counter: Option<Borne>,
     bytes: &[u8],
     out: &mut [u8; BLOB_ROOM],
 ) -> usize
@@ -95,13 +103,13 @@ pub(crate) fn write_blob(
     ensures written { out.new ≡ over (blob keys.now (record {
       serial = serial;
       chain = chain.now;
-      counter = None;
+      counter = counter;
       bytes = bytes.now;
     })) out.old }
     ensures size { result ≡ blob_size (length bytes.now) }
 {
     let end = HEAD_LEN + bytes.len();
-    out[..HEAD_LEN].copy_from_slice(&head_of(serial, chain, bytes));
+    out[..HEAD_LEN].copy_from_slice(&head_of(serial, chain, counter, bytes));
     mask_into(&keys.masking, serial, bytes, &mut out[HEAD_LEN..end]);
     let tag = mac(&keys.sealing, &out[..end]);
     out[end..end + TAG_LEN].copy_from_slice(&tag);
@@ -151,7 +159,7 @@ fn is_same_tag(one: &[u8; TAG_LEN], other: &[u8; TAG_LEN]) -> bool
 }
 
 // Whether bytes have the form of a blob and the tag.
-fn is_tagged(keys: &Keys, blob: &[u8]) -> bool
+pub(crate) fn is_tagged(keys: &Keys, blob: &[u8]) -> bool
     ensures tag { result ≡ tag_ok keys.now blob.now }
     ensures form { IsTrue result → IsTrue (is_form blob.now) }
     ensures long { IsTrue result → blob_size 0 ≤ length blob.now }
@@ -166,7 +174,7 @@ fn is_tagged(keys: &Keys, blob: &[u8]) -> bool
 }
 
 // The bytes that were sealed in a blob stand in the buffer's first ones, and their length is given.
-fn unmask_into(keys: &Keys, blob: &[u8], out: &mut [u8; LONGEST_SEALED]) -> usize
+pub(crate) fn unmask_into(keys: &Keys, blob: &[u8], out: &mut [u8; LONGEST_SEALED]) -> usize
     requires { IsTrue (is_form blob.now) }
     ensures written { out.new ≡ over (sealed_of keys.now blob.now).bytes out.old }
     ensures size { result ≡ length (sealed_of keys.now blob.now).bytes }
@@ -179,72 +187,23 @@ fn unmask_into(keys: &Keys, blob: &[u8], out: &mut [u8; LONGEST_SEALED]) -> usiz
 }
 
 // Whether a blob bears this value of register 17.
-fn is_chain(blob: &[u8], value: &[u8; 20]) -> bool
+pub(crate) fn is_chain(blob: &[u8], value: &[u8; 20]) -> bool
     requires { blob_size 0 ≤ length blob.now }
     ensures { result ≡ bytes_eq (chain_field blob.now) value.now }
 {
     &blob[17..37] == value.as_slice()
 }
 
-// What a blob opens to in register 17's present value.
-pub(crate) fn open_into(
-    keys: &Keys,
-    present: &[u8; 20],
-    blob: &[u8],
-    out: &mut [u8; LONGEST_SEALED],
-) -> Result<usize, UnsealFault>
-    ensures opened { (d : DigestDevice) → present_chain digests d ≡ present.now →
-        (result, out.new) ≡ reported_into out.old unseal_fault UnsealFault.PowerLost
-        (Some (open_blob digests d (parsed keys.now blob.now))) }
-    ensures size { IfOk result (λ size. size ≤ LONGEST_SEALED) }
+// The counter that a blob bears, if it bears one.
+pub(crate) fn borne_in(blob: &[u8]) -> Option<Borne>
+    requires { blob_size 0 ≤ length blob.now }
+    ensures { result ≡ bearing_of blob.now }
 {
-    if !is_tagged(keys, blob) {
-        return Err(UnsealFault::NotBlob);
+    if blob[12] == NO_COUNTER {
+        return None;
     }
-    if !is_chain(blob, present) {
-        return Err(UnsealFault::WrongChain);
-    }
-    if blob[12] != NO_COUNTER {
-        return Err(UnsealFault::WrongCounter);
-    }
-    Ok(unmask_into(keys, blob, out))
-}
-
-// Why bytes are not sealed, if they are not.
-fn fault_of_sealing(serial: u64, bytes: &[u8], counter: Option<u8>) -> Option<SealFault>
-    ensures fault { result ≡ option_map seal_fault (seal_refusal serial bytes.now counter) }
-    ensures short { IfNone result (length bytes.now ≤ LONGEST_SEALED) }
-    ensures next { IfNone result (serial < last_serial) }
-{
-    if bytes.len() > LONGEST_SEALED {
-        Some(SealFault::TooLong)
-    } else if counter.is_some() {
-        Some(SealFault::NoCounter)
-    } else if serial == u64::MAX {
-        Some(SealFault::SerialEnd)
-    } else {
-        None
-    }
-}
-
-// What bytes are sealed to under this serial and in register 17's present value.
-pub(crate) fn seal_into(
-    keys: &Keys,
-    serial: u64,
-    present: &[u8; 20],
-    bytes: &[u8],
-    counter: Option<u8>,
-    out: &mut [u8; BLOB_ROOM],
-) -> Result<usize, SealFault>
-    ensures sealed { (d : DigestDevice) → d.serial ≡ serial → present_chain digests d ≡ present.now →
-        (result, out.new) ≡ reported_into out.old seal_fault SealFault.PowerLost
-        (Some (seal digests bytes.now counter d keys.now).1) }
-    ensures done { IsOk result ↔ (seal_refusal serial bytes.now counter ≡ None) }
-    ensures next { OnOk result (serial < last_serial) }
-    ensures size { IfOk result (λ size. size ≡ blob_size (length bytes.now)) }
-{
-    match fault_of_sealing(serial, bytes, counter) {
-        Some(fault) => Err(fault),
-        None => Ok(write_blob(keys, serial, present, bytes, out)),
-    }
+    Some(Borne {
+        id: blob[12],
+        value: u32::from_be_bytes([blob[13], blob[14], blob[15], blob[16]]),
+    })
 }

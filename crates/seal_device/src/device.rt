@@ -1,28 +1,43 @@
 // The device.
-ghost use Rattle.std.specs.Prelude.{◌≡◌, ◌≤◌, ◌++◌, ◌+◌, length, Some, IfOk, slice_index_or, []};
+ghost use Rattle.std.specs.Prelude.{◌≡◌, ◌<◌, ◌≤◌, ◌++◌, ◌+◌, length, Some, IfOk, OnOk, is_ok};
+ghost use Rattle.std.specs.Prelude.{if◌then◌else◌};
+ghost use Rattle.tpm_state.specs.Refusals.Create as creates;
+ghost use Rattle.tpm_state.specs.Refusals.ReadCounter as reads;
+ghost use Rattle.tpm_state.specs.Refusals.Increment as increments;
+ghost use Rattle.tpm_state.specs.CounterFaults as tpm;
 ghost use Rattle.flk_base.specs.Plan.{ask};
 ghost use Rattle.flk_base.specs.Stop.{Ends, or_lost, reported, reported_into, with_fuse};
 ghost use Rattle.seal_device.specs.Blobs.{blob_size};
+ghost use Rattle.seal_device.specs.Sealing.{present_chain, last_serial, seal, unseal, check_next};
 ghost use Rattle.seal_device.specs.Commands.{Command, act, blank};
 ghost use Rattle.seal_device.specs.Digests.{digests, on_device};
 ghost use Rattle.seal_device.specs.Faults.{power_lost, register_fault, provision_answer, seal_fault};
-ghost use Rattle.seal_device.specs.Faults.{unseal_fault};
+ghost use Rattle.seal_device.specs.Faults.{unseal_fault, create_fault, read_fault, increment_fault};
+ghost use Rattle.seal_device.specs.Faults.{random_fault};
 
-use crate::blobs::{BLOB_ROOM, LONGEST_SEALED, open_into, seal_into};
-use crate::faults::{Provisioned, RegisterFault, SealFault, UnsealFault};
+use crate::bearings::{awaited, bearing_to_seal, is_standing};
+use crate::blobs::{
+    BLOB_ROOM, LONGEST_SEALED, borne_in, is_chain, is_tagged, unmask_into, write_blob,
+};
+use crate::faults::{
+    CounterFault, Provisioned, RandomFault, RegisterFault, SealFault, UnsealFault,
+};
 use crate::keys::Keys;
 use flk_base::{Fuse, PowerLost};
 use std::marker::Model;
-use tpm_state::{Bank, NoRegister};
+use tpm_state::{Bank, Counters, NoRegister};
 
-/// The device: its 24 registers, the keys once it has a seed, which is not kept, and the serial of
-/// the next record that it seals. Contracts see the device of the platform of digests. A call with
-/// a fuse takes its step first: where the power is lost there, nothing else changes.
+/// The device: its 24 registers, its counters, the keys once it has a seed, which is not kept, the
+/// serial of the next record that it seals, and how many random words it gave. Contracts see the
+/// device of the platform of digests. A call with a fuse takes its step first: where the power is
+/// lost there, nothing else changes.
 #[derive(Drop)]
 pub struct Device {
     bank: Bank,
+    counters: Counters,
     keys: Option<Keys>,
     serial: u64,
+    drawn: u64,
 }
 
 impl Model for Device {
@@ -34,8 +49,10 @@ impl Model for Device {
 
     ghost view = { λ d. record {
       chains = d.bank;
+      counters = d.counters;
       keys = d.keys;
       serial = d.serial;
+      drawn = d.drawn;
       made = tt;
     } };
 
@@ -49,8 +66,10 @@ impl Device {
     {
         Device {
             bank: Bank::power_on(),
+            counters: Counters::blank(),
             keys: None,
             serial: 0,
+            drawn: 0,
         }
     }
 
@@ -131,7 +150,7 @@ impl Device {
 
     /// Seals bytes in register 17's present value: their blob stands in the first bytes of `out`,
     /// and its length is answered, 59 more than there are bytes. Each blob has the next serial.
-    /// No counter is in use yet, so one that is asked for is refused, and `ahead` changes nothing.
+    /// Where a counter is asked for, the blob bears its present value, or `ahead` the next one.
     /// A refusal leaves all but the fuse as it was, and so does lost power.
     pub fn seal(
         &mut self,
@@ -150,10 +169,9 @@ impl Device {
         if fuse.step().is_err() {
             return Err(SealFault::PowerLost);
         }
-        let present = self.present_value();
         let sealed = match &self.keys {
             None => Err(SealFault::Unprovisioned),
-            Some(keys) => seal_into(keys, self.serial, &present, bytes, counter, out),
+            Some(keys) => self.seal_under(keys, bytes, counter, ahead, out),
         };
         if sealed.is_ok() {
             self.serial += 1;
@@ -161,9 +179,10 @@ impl Device {
         sealed
     }
 
-    /// Unseals a blob that was sealed under this seed in register 17's present value: the bytes
-    /// that were sealed stand in the first bytes of `out`, and how many they are is answered. A
-    /// refusal leaves all but the fuse as it was, and so does lost power.
+    /// Unseals a blob that was sealed under this seed in register 17's present value, where the
+    /// counter that it bears, if it bears one, has its value: the bytes that were sealed stand in
+    /// the first bytes of `out`, and how many they are is answered. A refusal leaves all but the
+    /// fuse as it was, and so does lost power.
     pub fn unseal(
         &self,
         blob: &[u8],
@@ -178,21 +197,190 @@ impl Device {
         if fuse.step().is_err() {
             return Err(UnsealFault::PowerLost);
         }
-        let present = self.present_value();
         match &self.keys {
             None => Err(UnsealFault::Unprovisioned),
-            Some(keys) => open_into(keys, &present, blob, out),
+            Some(keys) => self.open_under(keys, blob, out),
         }
+    }
+
+    /// Tries a blob for the next value of the counter that it bears, in register 17's present value,
+    /// and gives the counter's number: as an unseal, but the blob's value has to be one above the
+    /// counter's. It shows nothing and changes nothing but the fuse.
+    pub fn check_next(&self, blob: &[u8], fuse: &mut Fuse) -> Result<u8, UnsealFault>
+        ensures { Ends (reported unseal_fault UnsealFault.PowerLost)
+            (on_device (ask (Command.CheckNext blob.now)) (with_fuse self.now fuse.old.left))
+            (with_fuse self.now fuse.new.left) result }
+    {
+        if fuse.step().is_err() {
+            return Err(UnsealFault::PowerLost);
+        }
+        match &self.keys {
+            None => Err(UnsealFault::Unprovisioned),
+            Some(keys) => self.next_under(keys, blob),
+        }
+    }
+
+    /// Creates a counter that register 17's present value owns, and gives its number, the lowest
+    /// unused one: it starts one above the largest value that any counter has had so far. A refusal
+    /// leaves all but the fuse as it was, and so does lost power.
+    pub fn new_counter(&mut self, fuse: &mut Fuse) -> Result<u8, CounterFault>
+        ensures { Ends (reported create_fault CounterFault.PowerLost)
+            (on_device (ask Command.NewCounter) (with_fuse self.old fuse.old.left))
+            (with_fuse self.new fuse.new.left) result }
+    {
+        if fuse.step().is_err() {
+            return Err(CounterFault::PowerLost);
+        }
+        let present = self.present_value();
+        match self.counters.create(&present) {
+            Ok(id) => Ok(id),
+            Err(fault) => Err(counter_fault(fault)),
+        }
+    }
+
+    /// The value of counter `id`, for anyone.
+    pub fn read_counter(&self, id: u8, fuse: &mut Fuse) -> Result<u32, CounterFault>
+        ensures { Ends (reported read_fault CounterFault.PowerLost)
+            (on_device (ask (Command.ReadCounter id)) (with_fuse self.now fuse.old.left))
+            (with_fuse self.now fuse.new.left) result }
+    {
+        if fuse.step().is_err() {
+            return Err(CounterFault::PowerLost);
+        }
+        match self.counters.read(id) {
+            Ok(value) => Ok(value),
+            Err(fault) => Err(counter_fault(fault)),
+        }
+    }
+
+    /// Increments counter `id`, where register 17 has the value that owns it, and gives its new
+    /// value. A refusal leaves all but the fuse as it was, and so does lost power.
+    pub fn increment(&mut self, id: u8, fuse: &mut Fuse) -> Result<u32, CounterFault>
+        ensures { Ends (reported increment_fault CounterFault.PowerLost)
+            (on_device (ask (Command.Increment id)) (with_fuse self.old fuse.old.left))
+            (with_fuse self.new fuse.new.left) result }
+    {
+        if fuse.step().is_err() {
+            return Err(CounterFault::PowerLost);
+        }
+        let present = self.present_value();
+        match self.counters.increment(id, &present) {
+            Ok(value) => Ok(value),
+            Err(fault) => Err(counter_fault(fault)),
+        }
+    }
+
+    /// The next random word, 20 bytes: each is the HMAC of its number, counted from 0. A refusal
+    /// leaves all but the fuse as it was, and so does lost power.
+    pub fn random(&mut self, fuse: &mut Fuse) -> Result<[u8; 20], RandomFault>
+        ensures { Ends (reported random_fault RandomFault.PowerLost)
+            (on_device (ask Command.Random) (with_fuse self.old fuse.old.left))
+            (with_fuse self.new fuse.new.left) result }
+    {
+        if fuse.step().is_err() {
+            return Err(RandomFault::PowerLost);
+        }
+        let Some(keys) = &self.keys else {
+            return Err(RandomFault::Unprovisioned);
+        };
+        if self.drawn == u64::MAX {
+            return Err(RandomFault::RandomEnd);
+        }
+        let word = keys.word(self.drawn);
+        self.drawn += 1;
+        Ok(word)
     }
 
     /// Register 17's value.
     fn present_value(&self) -> [u8; 20]
-        ensures { result ≡ slice_index_or self.now.chains 17 [] }
+        ensures { result ≡ present_chain digests self.now }
     {
         let shown = self.bank.read(17);
         match shown {
             Ok(value) => value,
             Err(NoRegister) => unreachable!(),
         }
+    }
+
+    /// What bytes are sealed to under these keys.
+    fn seal_under(
+        &self,
+        keys: &Keys,
+        bytes: &[u8],
+        counter: Option<u8>,
+        ahead: bool,
+        out: &mut [u8; BLOB_ROOM],
+    ) -> Result<usize, SealFault>
+        ensures sealed { (result, out.new) ≡ reported_into out.old seal_fault SealFault.PowerLost
+            (Some (seal digests bytes.now counter ahead self.now keys.now).1) }
+        ensures device { (seal digests bytes.now counter ahead self.now keys.now).0
+            ≡ (if is_ok result then record self.now { serial = self.now.serial + 1 } else self.now) }
+        ensures next { OnOk result (self.now.serial < last_serial) }
+        ensures size { IfOk result (λ size. size ≡ blob_size (length bytes.now)) }
+    {
+        let borne = match bearing_to_seal(self.serial, &self.counters, bytes, counter, ahead) {
+            Err(fault) => return Err(fault),
+            Ok(borne) => borne,
+        };
+        let present = self.present_value();
+        Ok(write_blob(keys, self.serial, &present, borne, bytes, out))
+    }
+
+    /// What a blob opens to under these keys.
+    fn open_under(
+        &self,
+        keys: &Keys,
+        blob: &[u8],
+        out: &mut [u8; LONGEST_SEALED],
+    ) -> Result<usize, UnsealFault>
+        ensures opened { (result, out.new)
+            ≡ reported_into out.old unseal_fault UnsealFault.PowerLost
+            (Some (unseal digests blob.now self.now keys.now).1) }
+        ensures size { IfOk result (λ size. size ≤ LONGEST_SEALED) }
+    {
+        if !is_tagged(keys, blob) {
+            return Err(UnsealFault::NotBlob);
+        }
+        if !is_chain(blob, &self.present_value()) {
+            return Err(UnsealFault::WrongChain);
+        }
+        if !is_standing(&self.counters, borne_in(blob)) {
+            return Err(UnsealFault::WrongCounter);
+        }
+        Ok(unmask_into(keys, blob, out))
+    }
+
+    /// The number of the counter of which a blob under these keys has the next value.
+    fn next_under(&self, keys: &Keys, blob: &[u8]) -> Result<u8, UnsealFault>
+        ensures { result ≡ reported unseal_fault UnsealFault.PowerLost
+            (Some (check_next digests blob.now self.now keys.now).1) }
+    {
+        if !is_tagged(keys, blob) {
+            return Err(UnsealFault::NotBlob);
+        }
+        if !is_chain(blob, &self.present_value()) {
+            return Err(UnsealFault::WrongChain);
+        }
+        match awaited(&self.counters, borne_in(blob)) {
+            None => Err(UnsealFault::WrongCounter),
+            Some(id) => Ok(id),
+        }
+    }
+}
+
+/// The device's error for one of the counters.
+fn counter_fault(fault: tpm_state::CounterFault) -> CounterFault
+    ensures create { (refusal : creates.Refusal) → fault ≡ tpm.create_fault refusal
+        → result ≡ create_fault refusal }
+    ensures read { (refusal : reads.Refusal) → fault ≡ tpm.read_fault refusal
+        → result ≡ read_fault refusal }
+    ensures increment { (refusal : increments.Refusal) → fault ≡ tpm.increment_fault refusal
+        → result ≡ increment_fault refusal }
+{
+    match fault {
+        tpm_state::CounterFault::Full => CounterFault::Full,
+        tpm_state::CounterFault::End => CounterFault::End,
+        tpm_state::CounterFault::NoCounter => CounterFault::NoCounter,
+        tpm_state::CounterFault::NotOwner => CounterFault::NotOwner,
     }
 }

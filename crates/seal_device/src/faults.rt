@@ -23,13 +23,15 @@ pub enum SealFault {
     TooLong = 1,
     /// The counter is not in use.
     NoCounter = 2,
+    /// Bytes were to be sealed ahead, and the counter stands at 2^32 - 1.
+    CounterEnd = 3,
     /// The next serial is 2^64 - 1, which no record gets.
     SerialEnd = 4,
     /// The power was lost before the step.
     PowerLost = 5,
 }
 
-/// Why a blob was not unsealed, with the number of the fault. After lost power the order of trial
+/// Why a blob was not unsealed, or not tried for the next value of its counter, with the number of the fault. After lost power the order of trial
 /// is that of the list.
 #[derive(Clone, Copy, Debug, PartialEq, Eq)]
 pub enum UnsealFault {
@@ -39,8 +41,38 @@ pub enum UnsealFault {
     NotBlob = 1,
     /// Register 17 has another value than at the sealing.
     WrongChain = 2,
-    /// The blob bears a counter that is not in use.
+    /// The blob bears a counter that is not in use or has another value; where the next value is
+    /// asked for, also a blob that bears none.
     WrongCounter = 3,
+    /// The power was lost before the step.
+    PowerLost = 5,
+}
+
+/// Why a counter was not created, read or incremented, with the number of the fault. After lost
+/// power the order of trial is Full, End for a creation, and NoCounter, NotOwner, End for an
+/// increment.
+#[derive(Clone, Copy, Debug, PartialEq, Eq)]
+pub enum CounterFault {
+    /// All counters are in use.
+    Full = 1,
+    /// The value stands at 2^32 - 1: that of the counter, or for a creation the largest so far.
+    End = 2,
+    /// The counter is not in use.
+    NoCounter = 3,
+    /// Register 17 has another value than when the counter was created.
+    NotOwner = 4,
+    /// The power was lost before the step.
+    PowerLost = 5,
+}
+
+/// Why no random word was drawn, with the number of the fault. After lost power the order of trial
+/// is that of the list.
+#[derive(Clone, Copy, Debug, PartialEq, Eq)]
+pub enum RandomFault {
+    /// The device has no seed.
+    Unprovisioned = 6,
+    /// The next word's number is 2^64 - 1, which no word gets.
+    RandomEnd = 4,
     /// The power was lost before the step.
     PowerLost = 5,
 }

@@ -1,8 +1,9 @@
 // The keys of a device.
 ghost use Rattle.std.specs.Prelude.{◌≡◌};
 ghost use Rattle.seal_device.specs.Keys.{keys_of};
+ghost use Rattle.seal_device.specs.Drawing.{random_word};
 
-use flk_hmac::derive;
+use flk_hmac::{derive, mac};
 use std::marker::Model;
 
 /// The four keys that a seed gives, 20 bytes each.
@@ -38,5 +39,12 @@ impl Keys {
             quoting: derive(seed, b"flk-quote"),
             drawing: derive(seed, b"flk-rand"),
         }
+    }
+
+    /// The random word of this number.
+    pub(crate) fn word(&self, number: u64) -> [u8; 20]
+        ensures { result ≡ random_word self.now number }
+    {
+        mac(&self.drawing, &number.to_be_bytes())
     }
 }

@@ -5,11 +5,16 @@ ghost use Rattle.std.specs.Prelude.{Option, Some, None, Ok, Err, slice_get, All,
 ghost use Rattle.flk_base.specs.Plan.{Plan, ask, EndAlike};
 ghost use Rattle.flk_base.specs.Stop.{Limit, Fused, with_fuse, limited, fused};
 ghost use Rattle.tpm_state.specs.Chain.{Chain, value, power_start, register_count};
+ghost use Rattle.tpm_state.specs.Counters.{Counter, no_counters, counter_at, InRange, Grew, Created};
+ghost use Rattle.tpm_state.specs.Counters.{Incremented};
 ghost use Rattle.seal_device.specs.Keys.{Keys, keys_of};
 ghost use Rattle.seal_device.specs.Rules.{Device, Rules};
 ghost use Rattle.seal_device.specs.Refusals.Seed as seeds;
 ghost use Rattle.seal_device.specs.Refusals.Seal as seals;
 ghost use Rattle.seal_device.specs.Refusals.Unseal as unseals;
+ghost use Rattle.seal_device.specs.Refusals.Random as randoms;
+ghost use Rattle.seal_device.specs.Sealing.{present_chain};
+ghost use Rattle.seal_device.specs.Drawing.{last_word, random_word};
 ghost use Rattle.seal_device.specs.Commands.{Command, Reply, act, blank, compares, costs};
 ghost use Rattle.seal_device.specs.Commands.{launch_register, launch_start};
 ghost use Rattle.seal_device.specs.Digests.{DigestDevice, digests, on_device};
@@ -85,7 +90,8 @@ pub fn clean_runs_agree<X>()
 {}
 
 /// Where strings that were hashed for two chains are clean, the chains show one value only if they
-/// are one: so it is in a device of lists whose ledger is clean.
+/// are one: so it is in a device of lists whose ledger is clean, of its registers and of its
+/// counters' owners.
 pub fn clean_values_are_apart()
     ensures chains { (hashed : List (List ℕ)) (one other : Chain) → Clean hashed →
         All (Contains hashed) (strings one) → All (Contains hashed) (strings other) →
@@ -94,6 +100,10 @@ pub fn clean_values_are_apart()
         Noted d ledger → Clean ledger.hashed →
         Contains d.chains one → Contains d.chains other →
         value one ≡ value other → one ≡ other }
+    ensures owners { (d : ListDevice) (ledger : Ledger) (id : ℕ) (counter : Counter Chain)
+        (other : Chain) → Noted d ledger → Clean ledger.hashed →
+        counter_at d.counters id ≡ Some counter → Contains d.chains other →
+        value counter.owner ≡ value other → counter.owner ≡ other }
 {}
 
 /// What commands do to the registers, by the rules of any platform. At power-on the chains are
@@ -126,14 +136,25 @@ pub fn commands_by_registers<H, M>()
         (d : Device H M) → (act R (Command.Seal bytes counter ahead) d).0.chains ≡ d.chains }
     ensures unseal { (R : Rules H M) (bytes : List ℕ) (d : Device H M) →
         (act R (Command.Unseal bytes) d).0 ≡ d }
+    ensures check_next { (R : Rules H M) (bytes : List ℕ) (d : Device H M) →
+        (act R (Command.CheckNext bytes) d).0 ≡ d }
+    ensures new_counter { (R : Rules H M) (d : Device H M) →
+        (act R Command.NewCounter d).0.chains ≡ d.chains }
+    ensures read_counter { (R : Rules H M) (id : ℕ) (d : Device H M) →
+        (act R (Command.ReadCounter id) d).0 ≡ d }
+    ensures increment { (R : Rules H M) (id : ℕ) (d : Device H M) →
+        (act R (Command.Increment id) d).0.chains ≡ d.chains }
+    ensures random { (R : Rules H M) (d : Device H M) →
+        (act R Command.Random d).0.chains ≡ d.chains }
     ensures count { (R : Rules H M) (c : Command) (d : Device H M) →
         length d.chains ≡ register_count → length (act R c d).0.chains ≡ register_count }
 {}
 
-/// What commands do to the keys and to the serial, by the rules of any platform. The keys of a seed
-/// come once, and then stay. Without them nothing is sealed or unsealed. What is sealed gets the
-/// serial, and the next one is one more: it never falls, and stays below 2^64. What is refused
-/// changes nothing.
+/// What commands do to the keys, to the serial and to the count of random words, by the rules of any
+/// platform. The keys of a seed come once, and then stay. Without them nothing is sealed, unsealed,
+/// tried or drawn. What is sealed gets the serial, and the next one is one more: it never falls, and
+/// stays below 2^64; what is refused changes nothing. So it is with the number of the next random
+/// word, and no other command draws one.
 pub fn commands_by_keys<H, M>()
     ensures provision { (R : Rules H M) (seed : List ℕ) (d : Device H M) → d.keys ≡ None →
         act R (Command.Provision seed) d ≡ (record d { keys = Some (keys_of seed) }, Ok tt) }
@@ -146,6 +167,10 @@ pub fn commands_by_keys<H, M>()
         act R (Command.Seal bytes counter ahead) d ≡ (d, Err seals.Unprovisioned) }
     ensures no_keys_to_unseal { (R : Rules H M) (bytes : List ℕ) (d : Device H M) → d.keys ≡ None →
         act R (Command.Unseal bytes) d ≡ (d, Err unseals.Unprovisioned) }
+    ensures no_keys_to_try { (R : Rules H M) (bytes : List ℕ) (d : Device H M) → d.keys ≡ None →
+        act R (Command.CheckNext bytes) d ≡ (d, Err unseals.Unprovisioned) }
+    ensures no_keys_to_draw { (R : Rules H M) (d : Device H M) → d.keys ≡ None →
+        act R Command.Random d ≡ (d, Err randoms.Unprovisioned) }
     ensures sealed { (R : Rules H M) (bytes blob : List ℕ) (counter : Option ℕ) (ahead : Bool)
         (d : Device H M) → (act R (Command.Seal bytes counter ahead) d).1 ≡ Ok blob →
         (act R (Command.Seal bytes counter ahead) d).0.serial ≡ d.serial + 1 }
@@ -155,6 +180,43 @@ pub fn commands_by_keys<H, M>()
         (act R (Command.Seal bytes counter ahead) d).0 ≡ d }
     ensures serial { (R : Rules H M) (c : Command) (d : Device H M) → d.serial < 2 ^ 64 →
         (d.serial ≤ (act R c d).0.serial) × ((act R c d).0.serial < 2 ^ 64) }
+    ensures drawn { (R : Rules H M) (d : Device H M) (keys : Keys) → d.keys ≡ Some keys →
+        d.drawn ≢ last_word → act R Command.Random d
+        ≡ (record d { drawn = d.drawn + 1 }, Ok (random_word keys d.drawn)) }
+    ensures last_word { (R : Rules H M) (d : Device H M) (keys : Keys) → d.keys ≡ Some keys →
+        d.drawn ≡ last_word → act R Command.Random d ≡ (d, Err randoms.RandomEnd) }
+    ensures words { (R : Rules H M) (c : Command) (d : Device H M) → c ≢ Command.Random →
+        (act R c d).0.drawn ≡ d.drawn }
+{}
+
+/// What commands do to the counters, by the rules of any platform. They stay in their ranges; each
+/// that is in use stays so, with its owner, and its value never falls: so it is over each command
+/// and over each plan, wherever its fuse stops it. A counter stays as it is under each command that
+/// is given while register 17 stands in another chain than its owner. A new one is owned by register
+/// 17's chain. Power-on changes none.
+pub fn commands_by_counters<H, M, X>()
+    ensures in_range { (R : Rules H M) (c : Command) (d : Device H M) → InRange d.counters →
+        InRange (act R c d).0.counters }
+    ensures grow { (R : Rules H M) (c : Command) (d : Device H M) →
+        Grew d.counters (act R c d).0.counters }
+    ensures plans_in_range { (R : Rules H M) (plan : Plan Command Reply X)
+        (before : Fused (Device H M)) → InRange before.state.counters →
+        InRange (fused costs (act R) plan before).0.state.counters }
+    ensures plans_grow { (R : Rules H M) (plan : Plan Command Reply X)
+        (before : Fused (Device H M)) →
+        Grew before.state.counters (fused costs (act R) plan before).0.state.counters }
+    ensures blank { (R : Rules H M) → (blank R).counters ≡ no_counters }
+    ensures owner { (R : Rules H M) (c : Command) (d : Device H M) (id : ℕ)
+        (counter : Counter H) → counter_at d.counters id ≡ Some counter →
+        R.same counter.owner (present_chain R d) ≡ false →
+        counter_at (act R c d).0.counters id ≡ Some counter }
+    ensures new_counter { (R : Rules H M) (d : Device H M) (id : ℕ) →
+        (act R Command.NewCounter d).1 ≡ Ok id →
+        Created (present_chain R d) d.counters id (act R Command.NewCounter d).0.counters }
+    ensures increment { (R : Rules H M) (d : Device H M) (id value : ℕ) →
+        (act R (Command.Increment id) d).1 ≡ Ok value →
+        Incremented R.same id (present_chain R d) d.counters value
+        (act R (Command.Increment id) d).0.counters }
 {}
 
 /// A command that costs nothing, as power-on and the taking of a seed, takes nothing from the fuse and is done at any. Each

@@ -3,4 +3,5 @@ pub data Refusal : Type 0 where
   Unprovisioned : Refusal
   TooLong : Refusal
   NoCounter : Refusal
+  CounterEnd : Refusal
   SerialEnd : Refusal
