@@ -1,23 +1,32 @@
 -- The homomorphism: on the digests of a device of lists a command does what it does there, and
 -- replies the same.
 use Rattle.std.proofs.Common.{◌≡◌, ℕ, zero, suc, List, [], ◌∷◌, map, get_or, Bool, false, Option}
-use Rattle.std.proofs.Common.{Some, None, refl, sym, ap}
-use Rattle.std.specs.Prelude.{Result, Ok, slice_get}
+use Rattle.std.proofs.Common.{Some, None, refl, sym, ap, ◌∙◌, true, eqb, ltb, length, cond, ◌+◌}
+use Rattle.std.specs.Prelude.{Result, Ok, Err, slice_get, if◌then◌else◌}
 use Rattle.std.specs.Option.{option_map}
 use Rattle.std.proofs.lemmas.Option.{slice_get-map}
 use Rattle.std.proofs.lemmas.List.{map-set}
 use Rattle.tpm_state.specs.Chain.{Chain, From, ◌▷◌, value}
+use Rattle.tpm_state.specs.Counters.{Counter, Counters, counter_at, counter_map, counters_map, create}
+use Rattle.tpm_state.specs.CounterLaws.{mapped_at, mapped_create, mapped_read}
+use Rattle.tpm_state.specs.Refusals.ReadCounter as reads
 use Rattle.seal_device.specs.Keys.{Keys, keys_of}
+use Rattle.seal_device.specs.Sealed.{Bearing, longest_sealed}
 use Rattle.seal_device.specs.Rules.{launch_start, launch_register}
-use Rattle.seal_device.specs.Sealing.{provision, with_keys, present_chain, seal_unless, seal_refusal}
+use Rattle.seal_device.specs.Bearings.{bearing, bearing_at}
+use Rattle.seal_device.specs.Drawing.{draw, last_word, random_word}
+use Rattle.seal_device.specs.Sealing.{provision, with_keys, present_chain, seal_with, seal_bearing}
+use Rattle.seal_device.specs.Sealing.{unless_last}
 use Rattle.seal_device.specs.Commands.{Command, Provision, Measure, Extend, ReadRegister, Seal, Unseal}
-use Rattle.seal_device.specs.Commands.{PowerOn, act, compares, extend, or_refused}
+use Rattle.seal_device.specs.Commands.{CheckNext, NewCounter, ReadCounter, Increment, Random, PowerOn}
+use Rattle.seal_device.specs.Commands.{act, compares, extend, with_counters, or_refused}
 use Rattle.seal_device.specs.Digests.{DigestDevice, digests}
 use Rattle.seal_device.specs.Ledger.{hashed_by, strings_at}
 use Rattle.seal_device.specs.Lists.{ListDevice, lists}
 use Rattle.seal_device.specs.Agreement.{digested, reply_digested}
 use Rattle.seal_device.specs.Refusals.Register as registers
 use Rattle.seal_device.specs.Refusals.Seal as seals
+use Rattle.seal_device.specs.Refusals.Random as randoms
 
 -- the command does the same on both
 abbrev pub Alike : Command → ListDevice → Type 0
@@ -77,16 +86,71 @@ pub with_keys_alike : {X E : Type 0} (refusal : E) (d : ListDevice)
 with_keys_alike refusal d f g None same = refl
 with_keys_alike refusal d f g (Some keys) same = same keys refl
 
+-- ---- sealing
+
+-- a record bears the same by other owners
+pub bearing_alike : {G H : Type 0} (f : G → H) (c : Counters G) (counter : Option ℕ)
+    (ahead : Bool) → bearing (counters_map f c) counter ahead ≡ bearing c counter ahead
+bearing_alike f c None ahead = refl
+bearing_alike {G} f c (Some id) ahead =
+    ap (bearing_at id ahead) (mapped_at f c id) ∙ by_slot ahead (counter_at c id) where
+      by_slot : (ahead : Bool) (o : Option (Counter G)) →
+          bearing_at id ahead (option_map (counter_map f) o) ≡ bearing_at id ahead o
+      by_slot ahead None = refl
+      by_slot false (Some counter) = refl
+      by_slot true (Some counter) = refl
+
+-- what is sealed bears the same by other owners
+seal_bearing_alike : {G H : Type 0} (f : G → H) (serial : ℕ) (c : Counters G) (bytes : List ℕ)
+    (counter : Option ℕ) (ahead : Bool) →
+    seal_bearing serial (counters_map f c) bytes counter ahead
+    ≡ seal_bearing serial c bytes counter ahead
+seal_bearing_alike f serial c bytes counter ahead =
+    ap (λ (borne : Result (Option Bearing) seals.Refusal).
+    if ltb longest_sealed (length bytes) then Err seals.TooLong else unless_last serial borne)
+    (bearing_alike f c counter ahead)
+
 seal_alike : (bytes : List ℕ) (counter : Option ℕ) (ahead : Bool) (d : ListDevice) →
     Alike (Seal bytes counter ahead) d
 seal_alike bytes counter ahead d =
-    with_keys_alike seals.Unprovisioned d _ _ d.keys (λ keys is. by_refusal keys
-    (seal_refusal d.serial bytes counter)) where
-      by_refusal : (keys : Keys) (o : Option seals.Refusal) →
-          seal_unless digests bytes (digested d) keys o
-          ≡ reply_digested (seal_unless lists bytes d keys o)
-      by_refusal keys None = rw (present_alike d) refl
-      by_refusal keys (Some refusal) = refl
+    with_keys_alike seals.Unprovisioned d _ _ d.keys (λ keys is.
+    ap (seal_with digests bytes (digested d) keys)
+    (seal_bearing_alike value d.serial d.counters bytes counter ahead)
+    ∙ by_borne keys (seal_bearing d.serial d.counters bytes counter ahead)) where
+      by_borne : (keys : Keys) (o : Result (Option Bearing) seals.Refusal) →
+          seal_with digests bytes (digested d) keys o
+          ≡ reply_digested (seal_with lists bytes d keys o)
+      by_borne keys (Ok borne) = rw (present_alike d) refl
+      by_borne keys (Err refusal) = refl
+
+-- ---- counters and random words
+
+new_counter_alike : (d : ListDevice) → Alike NewCounter d
+new_counter_alike d =
+    ap (λ (who : List ℕ). with_counters (digested d) (create who (counters_map value d.counters)))
+    (present_alike d)
+    ∙ ap (with_counters (digested d)) (mapped_create value (present_chain lists d) d.counters)
+
+read_counter_alike : (id : ℕ) (d : ListDevice) → Alike (ReadCounter id) d
+read_counter_alike id d =
+    ap (λ (reply : Result ℕ reads.Refusal).
+    let end : DigestDevice × Result ℕ reads.Refusal = (digested d, reply) in end)
+    (mapped_read value id d.counters)
+
+random_alike : (d : ListDevice) → Alike Random d
+random_alike d =
+    with_keys_alike randoms.Unprovisioned d _ _ d.keys
+    (λ keys is. by_last keys (eqb d.drawn last_word)) where
+      by_last : (keys : Keys) (last : Bool) →
+          ◌≡◌ {A = DigestDevice × Result (List ℕ) randoms.Refusal}
+          (if last
+          then (digested d, Err randoms.RandomEnd)
+          else (record (digested d) { drawn = d.drawn + 1 }, Ok (random_word keys d.drawn)))
+          (reply_digested (if last
+          then (d, Err randoms.RandomEnd)
+          else (record d { drawn = d.drawn + 1 }, Ok (random_word keys d.drawn))))
+      by_last keys true = refl
+      by_last keys false = refl
 
 -- each command that compares nothing
 pub alike : (c : Command) (d : ListDevice) → compares c ≡ false → Alike c d
@@ -95,8 +159,13 @@ alike (Measure image) d nothing = measure_alike image d
 alike (Extend r text) d nothing = extend_alike r text d
 alike (ReadRegister r) d nothing = read_alike r d
 alike (Seal bytes counter ahead) d nothing = seal_alike bytes counter ahead d
-alike (Unseal bytes) d nothing = absurd (cc)
+alike NewCounter d nothing = new_counter_alike d
+alike (ReadCounter id) d nothing = read_counter_alike id d
+alike Random d nothing = random_alike d
 alike PowerOn d nothing = refl
+alike (Unseal bytes) d nothing = absurd (cc)
+alike (CheckNext bytes) d nothing = absurd (cc)
+alike (Increment id) d nothing = absurd (cc)
 
 -- on both a command hashes the same strings
 pub hashed_alike : (c : Command) (d : ListDevice) →
@@ -107,9 +176,4 @@ hashed_alike (Extend r text) d =
           strings_at digests text (option_map value o) ≡ strings_at lists text o
       by_chain None = refl
       by_chain (Some chain) = refl
-hashed_alike (Provision seed) d = refl
-hashed_alike (Measure image) d = refl
-hashed_alike (ReadRegister r) d = refl
-hashed_alike (Seal bytes counter ahead) d = refl
-hashed_alike (Unseal bytes) d = refl
-hashed_alike PowerOn d = refl
+hashed_alike c d = refl

@@ -1,9 +1,8 @@
 -- The ledger has what a device of lists knows, after each command.
 use Rattle.std.proofs.Common.{◌≡◌, ◌-◌, ℕ, zero, suc, ◌+◌, ◌<◌, ◌≤◌, List, [], ◌∷◌, ◌++◌, Bool}
 use Rattle.std.proofs.Common.{true, false, eqb, ltb, Option, Some, None, refl, sym, ap, ◌∙◌, subst}
-use Rattle.std.proofs.Common.{inl, inr, length, map, get_or, All, Contains, arith}
-use Rattle.std.specs.Prelude.{slice_get, is_some}
-use Rattle.std.proofs.lemmas.Bool.{ltb-false, eqb-false}
+use Rattle.std.proofs.Common.{inl, inr, length, map, get_or, All, Contains, Result, Ok, Err, arith}
+use Rattle.std.specs.Prelude.{slice_get, IfSome, replicate, if◌then◌else◌}
 use Rattle.std.proofs.lemmas.Option.{slice_get_within, get_or_from_slice_get}
 use Rattle.std.proofs.lemmas.List.Elements.{All-set, All-map, All-append, All-push, All-tail}
 use Rattle.std.proofs.lemmas.List.Elements.{All-weaker, All-contains_itself}
@@ -14,19 +13,28 @@ use Rattle.std.proofs.lemmas.List.{get_or_append_left, get_or-append_right}
 use Rattle.std.proofs.Common.{length-append}
 use Rattle.tpm_state.specs.Chain.{Start, Chain, From, ◌▷◌, value, start_value, power_start}
 use Rattle.tpm_state.specs.Chain.{register_numbers, register_count}
+use Rattle.tpm_state.specs.Counters.{Counter, Counters, counter_at, no_counters, create, increment}
+use Rattle.tpm_state.specs.Counters as counting
+use Rattle.tpm_state.specs.CounterLaws.{create_in_range, increment_in_range}
 use Rattle.seal_device.specs.Keys.{Keys, keys_of}
-use Rattle.seal_device.specs.Sealed.{Sealed, InRange}
+use Rattle.seal_device.specs.Sealed.{Bearing, BearingInRange, Sealed, InRange}
 use Rattle.seal_device.specs.Rules.{launch_start, launch_register}
+use Rattle.seal_device.specs.Drawing.{draw, last_word, random_word}
 use Rattle.seal_device.specs.Sealing.{provision, with_keys, present_chain, new_record, with_record}
-use Rattle.seal_device.specs.Sealing.{seal, seal_unless, seal_refusal, last_serial, unseal}
+use Rattle.seal_device.specs.Sealing.{seal, seal_with, seal_bearing, last_serial, unseal, check_next}
 use Rattle.seal_device.specs.Commands.{Command, Provision, Measure, Extend, ReadRegister, Seal, Unseal}
-use Rattle.seal_device.specs.Commands.{PowerOn, act, extend, with_chain, first_chains}
+use Rattle.seal_device.specs.Commands.{CheckNext, NewCounter, ReadCounter, Increment, Random, PowerOn}
+use Rattle.seal_device.specs.Commands.{act, extend, with_chain, first_chains, blank}
 use Rattle.seal_device.specs.Ledger.{Ledger, ledger_after, hashed_by, strings_to_extend, strings_at}
 use Rattle.seal_device.specs.Ledger.{if_given, no_ledger}
 use Rattle.seal_device.specs.Lists.{ListDevice, lists, blob_of}
-use Rattle.seal_device.specs.Agreement.{Knows, Noted, strings, blobs, SerialsRise}
+use Rattle.seal_device.specs.Agreement.{Knows, Noted, InLedger, OwnersInLedger, strings, blobs}
+use Rattle.seal_device.specs.Agreement.{SerialsRise}
 use Rattle.seal_device.specs.Refusals.Seal as seals
 use Rattle.seal_device.specs.Refusals.Unseal as unseals
+use Rattle.seal_device.specs.Refusals.Random as randoms
+use Rattle.seal_device.proofs.Sealable.{Sealable, sealable, BorneBy, borne_by, borne_in_range}
+use Rattle.seal_device.proofs.Owners.{none_in_use, create_owners, increment_owners}
 
 -- the strings of a chain are among those hashed
 abbrev pub Hashed : List (List ℕ) → Chain → Type 0
@@ -51,6 +59,9 @@ still_noted : (d : ListDevice) (ledger : Ledger) (more : List (List ℕ)) → No
 still_noted d ledger more noted =
     record {
       chains = λ k e l. still_hashed ledger.hashed more (get_or d.chains k e) (noted.chains k e l);
+      owners = λ id counter at.
+          still_hashed ledger.hashed more counter.owner (noted.owners id counter at);
+      counters = noted.counters;
       records = λ k e l.
           still_hashed ledger.hashed more (get_or d.made k e).chain (noted.records k e l);
       made = noted.made ∙ sym (append-nil ledger.made);
@@ -61,12 +72,16 @@ still_noted d ledger more noted =
       next = noted.next;
     }
 
--- the chains are others, of which all is known
-chains_noted : (d : ListDevice) (ledger : Ledger) (chains : List Chain) → Noted d ledger →
-    All (Hashed ledger.hashed) chains → Noted (record d { chains = chains }) ledger
-chains_noted d ledger chains noted known =
+-- chains and counters are others, of which all is known, and random words were drawn
+parts_noted : (d : ListDevice) (ledger : Ledger) (chains : List Chain) (counters : Counters Chain)
+    (drawn : ℕ) → Noted d ledger → All (Hashed ledger.hashed) chains →
+    OwnersInLedger ledger counters → counting.InRange counters →
+    Noted (record d { chains = chains; counters = counters; drawn = drawn }) ledger
+parts_noted d ledger chains counters drawn noted known owners range =
     record {
       chains = known;
+      owners = owners;
+      counters = range;
       records = noted.records;
       made = noted.made;
       no_keys = noted.no_keys;
@@ -75,6 +90,19 @@ chains_noted d ledger chains noted known =
       rise = noted.rise;
       next = noted.next;
     }
+
+-- the chains alone
+chains_noted : (d : ListDevice) (ledger : Ledger) (chains : List Chain) → Noted d ledger →
+    All (Hashed ledger.hashed) chains → Noted (record d { chains = chains }) ledger
+chains_noted d ledger chains noted known =
+    parts_noted d ledger chains d.counters d.drawn noted known noted.owners noted.counters
+
+-- the counters alone
+counters_noted : (d : ListDevice) (ledger : Ledger) (counters : Counters Chain) →
+    Noted d ledger → OwnersInLedger ledger counters → counting.InRange counters →
+    Noted (record d { counters = counters }) ledger
+counters_noted d ledger counters noted owners range =
+    parts_noted d ledger d.chains counters d.drawn noted noted.chains owners range
 
 -- a chain of which all is known comes into a register
 chain_noted : (d : ListDevice) (ledger : Ledger) (r : ℕ) (chain : Chain) → Noted d ledger →
@@ -141,11 +169,16 @@ blank_chains h =
     (λ k d l. none_hashed h (power_start (get_or register_numbers k d)))
 
 -- an empty ledger has what a device knows that was never used
-pub blank_noted : Noted (record { chains = first_chains lists; keys = None; serial = 0; made = [] })
-    no_ledger
+pub blank_noted : Noted (blank lists) no_ledger
 blank_noted =
     record {
       chains = blank_chains [];
+      owners = λ id counter at. absurd (none_in_use id counter at);
+      counters = record {
+        count = refl;
+        values = λ id counter at. absurd (none_in_use id counter at);
+        largest = omega arith;
+      };
       records = λ k e l. absurd (omega arith);
       made = refl;
       no_keys = λ none. refl;
@@ -167,6 +200,8 @@ provision_noted seed d ledger noted = by_keys d.keys refl where
       let none = noted.no_keys is in
       still_noted (record d { keys = Some (keys_of seed) }) ledger [] (record {
         chains = noted.chains;
+        owners = noted.owners;
+        counters = noted.counters;
         records = noted.records;
         made = ap (map (blob_of (keys_of seed))) none
             ∙ sym (ap (λ (k : Option Keys). blobs k d.made) is)
@@ -200,15 +235,19 @@ rise_more made r rise below i j d low there =
     ]
 
 -- a record more, in register 17's chain
-record_noted : (bytes : List ℕ) (d : ListDevice) (ledger : Ledger) (keys : Keys) →
-    d.keys ≡ Some keys → Noted d ledger → length bytes ≤ 2048 → d.serial < last_serial →
-    Noted (with_record lists (new_record lists bytes d) d)
-    (with_more ledger [] (blob_of keys (new_record lists bytes d) ∷ []))
-record_noted bytes d ledger keys is noted short below =
-    let r = new_record lists bytes d in
+record_noted : (bytes : List ℕ) (borne : Option Bearing) (d : ListDevice) (ledger : Ledger)
+    (keys : Keys) → d.keys ≡ Some keys → Noted d ledger → length bytes ≤ 2048 →
+    IfSome borne BearingInRange → d.serial < last_serial →
+    Noted (with_record lists (new_record lists bytes borne d) d)
+    (with_more ledger [] (blob_of keys (new_record lists bytes borne d) ∷ []))
+record_noted bytes borne d ledger keys is noted short fits below =
+    let r = new_record lists bytes borne d in
     let next = noted.next in
     record {
       chains = λ k e l. still_hashed ledger.hashed [] (get_or d.chains k e) (noted.chains k e l);
+      owners = λ id counter at.
+          still_hashed ledger.hashed [] counter.owner (noted.owners id counter at);
+      counters = noted.counters;
       records =
           All-push (λ s. Hashed (ledger.hashed ++ []) s.chain) d.made r
           (λ k e l. still_hashed ledger.hashed [] (get_or d.made k e).chain (noted.records k e l))
@@ -221,7 +260,7 @@ record_noted bytes d ledger keys is noted short below =
       no_keys = λ none. absurd (let clash : None ≡ Some keys = sym none ∙ is in cc);
       in_range =
           All-push InRange d.made r noted.in_range
-          (record { serial = next; counter = tt; bytes = short });
+          (record { serial = next; counter = fits; bytes = short });
       serials =
           All-push (λ s. s.serial < d.serial + 1) d.made r
           (All-weaker (λ s. s.serial < d.serial) (λ s. s.serial < d.serial + 1)
@@ -231,54 +270,67 @@ record_noted bytes d ledger keys is noted short below =
       next = omega arith;
     }
 
--- where there is no refusal, the bytes are not too many and there is a serial
-pub no_refusal_is : (serial : ℕ) (bytes : List ℕ) (counter : Option ℕ) →
-    seal_refusal serial bytes counter ≡ None →
-    (length bytes ≤ 2048) × (is_some counter ≡ false) × (eqb serial last_serial ≡ false)
-no_refusal_is serial bytes counter none =
-    by_length (ltb 2048 (length bytes)) refl (is_some counter) refl (eqb serial last_serial) refl
-    none where
-      by_length : (a : Bool) → ltb 2048 (length bytes) ≡ a → (b : Bool) → is_some counter ≡ b →
-          (c : Bool) → eqb serial last_serial ≡ c → seal_refusal serial bytes counter ≡ None →
-          (length bytes ≤ 2048) × (is_some counter ≡ false) × (eqb serial last_serial ≡ false)
-      by_length false one false two false three is =
-          (ltb-false 2048 (length bytes) one, two, three)
-      by_length true one b two c three is =
-          absurd (let no = rw one at is in cc)
-      by_length false one true two c three is =
-          absurd (let no = rw (one, two) at is in cc)
-      by_length false one false two true three is =
-          absurd (let no = rw (one, two, three) at is in cc)
-
 seal_noted : (bytes : List ℕ) (counter : Option ℕ) (ahead : Bool) (d : ListDevice)
     (ledger : Ledger) → Noted d ledger → StaysNoted (Seal bytes counter ahead) d ledger
 seal_noted bytes counter ahead d ledger noted = by_keys d.keys refl where
-  by_refusal : (keys : Keys) → d.keys ≡ Some keys → (o : Option seals.Refusal) →
-      seal_refusal d.serial bytes counter ≡ o →
-      Noted (seal_unless lists bytes d keys o).0
-      (with_more ledger [] (if_given (seal_unless lists bytes d keys o).1))
-  by_refusal keys is (Some refusal) why = still_noted d ledger [] noted
-  by_refusal keys is None why =
-      let told = no_refusal_is d.serial bytes counter why in
+  by_borne : (keys : Keys) → d.keys ≡ Some keys → (o : Result (Option Bearing) seals.Refusal) →
+      seal_bearing d.serial d.counters bytes counter ahead ≡ o →
+      Noted (seal_with lists bytes d keys o).0
+      (with_more ledger [] (if_given (seal_with lists bytes d keys o).1))
+  by_borne keys is (Err refusal) why = still_noted d ledger [] noted
+  by_borne keys is (Ok borne) why =
+      let told = sealable d.serial d.counters bytes counter ahead borne why in
+      let fits = borne_in_range d.counters borne noted.counters
+      (borne_by d.counters counter ahead borne noted.counters told.borne_is) in
       let next = noted.next in
-      let other = eqb-false d.serial last_serial told.2 in
-      record_noted bytes d ledger keys is noted told.0 (omega arith)
+      let other = told.free in
+      record_noted bytes borne d ledger keys is noted told.short fits (omega arith)
 
   by_keys : (k : Option Keys) → d.keys ≡ k →
-      Noted (with_keys seals.Unprovisioned d (seal lists bytes counter d) k).0
+      Noted (with_keys seals.Unprovisioned d (seal lists bytes counter ahead d) k).0
       (with_more ledger []
-      (if_given (with_keys seals.Unprovisioned d (seal lists bytes counter d) k).1))
+      (if_given (with_keys seals.Unprovisioned d (seal lists bytes counter ahead d) k).1))
   by_keys None is = still_noted d ledger [] noted
-  by_keys (Some keys) is = by_refusal keys is (seal_refusal d.serial bytes counter) refl
+  by_keys (Some keys) is =
+      by_borne keys is (seal_bearing d.serial d.counters bytes counter ahead) refl
 
-unseal_noted : (bytes : List ℕ) (d : ListDevice) (ledger : Ledger) → Noted d ledger →
-    StaysNoted (Unseal bytes) d ledger
-unseal_noted bytes d ledger noted = by_keys d.keys where
-  by_keys : (k : Option Keys) →
-      Noted (with_keys unseals.Unprovisioned d (unseal lists bytes d) k).0
-      (with_more ledger [] [])
-  by_keys None = still_noted d ledger [] noted
-  by_keys (Some keys) = still_noted d ledger [] noted
+-- a command that uses the keys, and leaves what is known with them and without
+with_keys_noted : {X E : Type 0} (refusal : E) (d : ListDevice) (ledger : Ledger)
+    (f : Keys → ListDevice × Result X E) (k : Option Keys) → Noted d ledger →
+    ((keys : Keys) → Noted (f keys).0 ledger) → Noted (with_keys refusal d f k).0 ledger
+with_keys_noted refusal d ledger f None noted done = noted
+with_keys_noted refusal d ledger f (Some keys) noted done = done keys
+
+-- ---- counters and random words
+
+new_counter_noted : (d : ListDevice) (ledger : Ledger) → Noted d ledger →
+    Noted (act lists NewCounter d).0 ledger
+new_counter_noted d ledger noted =
+    counters_noted d ledger (create (present_chain lists d) d.counters).0 noted
+    (create_owners (InLedger ledger) (present_chain lists d) d.counters noted.owners
+    (present_hashed d ledger noted))
+    (create_in_range (present_chain lists d) d.counters noted.counters)
+
+increment_noted : (id : ℕ) (d : ListDevice) (ledger : Ledger) → Noted d ledger →
+    Noted (act lists (Increment id) d).0 ledger
+increment_noted id d ledger noted =
+    counters_noted d ledger (increment lists.same id (present_chain lists d) d.counters).0 noted
+    (increment_owners (InLedger ledger) lists.same id (present_chain lists d) d.counters noted.owners)
+    (increment_in_range lists.same id (present_chain lists d) d.counters noted.counters)
+
+random_noted : (d : ListDevice) (ledger : Ledger) → Noted d ledger →
+    Noted (act lists Random d).0 ledger
+random_noted d ledger noted =
+    with_keys_noted randoms.Unprovisioned d ledger (draw d) d.keys noted
+    (λ keys. by_last keys (eqb d.drawn last_word)) where
+      by_last : (keys : Keys) (last : Bool) →
+          Noted ((let end : ListDevice × Result (List ℕ) randoms.Refusal = if last
+          then (d, Err randoms.RandomEnd)
+          else (record d { drawn = d.drawn + 1 }, Ok (random_word keys d.drawn)) in end).0) ledger
+      by_last keys true = noted
+      by_last keys false =
+          parts_noted d ledger d.chains d.counters (d.drawn + 1) noted noted.chains noted.owners
+          noted.counters
 
 -- each command keeps it
 pub stays_noted : (c : Command) (d : ListDevice) (ledger : Ledger) → Noted d ledger →
@@ -289,7 +341,21 @@ stays_noted (Extend r text) d ledger noted = extend_noted r text d ledger noted
 stays_noted (ReadRegister r) d ledger noted = still_noted d ledger [] noted
 stays_noted (Seal bytes counter ahead) d ledger noted =
     seal_noted bytes counter ahead d ledger noted
-stays_noted (Unseal bytes) d ledger noted = unseal_noted bytes d ledger noted
+stays_noted (Unseal bytes) d ledger noted =
+    let same = still_noted d ledger [] noted in
+    with_keys_noted unseals.Unprovisioned d (with_more ledger [] []) (unseal lists bytes d) d.keys
+    same (λ keys. same)
+stays_noted (CheckNext bytes) d ledger noted =
+    let same = still_noted d ledger [] noted in
+    with_keys_noted unseals.Unprovisioned d (with_more ledger [] []) (check_next lists bytes d)
+    d.keys same (λ keys. same)
+stays_noted NewCounter d ledger noted =
+    new_counter_noted d (with_more ledger [] []) (still_noted d ledger [] noted)
+stays_noted (ReadCounter id) d ledger noted = still_noted d ledger [] noted
+stays_noted (Increment id) d ledger noted =
+    increment_noted id d (with_more ledger [] []) (still_noted d ledger [] noted)
+stays_noted Random d ledger noted =
+    random_noted d (with_more ledger [] []) (still_noted d ledger [] noted)
 stays_noted PowerOn d ledger noted =
     chains_noted d (with_more ledger [] []) (first_chains lists) (still_noted d ledger [] noted)
     (blank_chains (ledger.hashed ++ []))
@@ -317,8 +383,4 @@ known_after (Extend r text) d count = by_chain (slice_get d.chains r) refl where
       All (Knows (extend lists r text d o).0) (strings_at lists text o)
   by_chain None is = λ k e l. absurd (omega arith)
   by_chain (Some chain) is = last_known d r chain text (slice_get_within d.chains r chain is)
-known_after (Provision seed) d count = λ k e l. absurd (omega arith)
-known_after (ReadRegister r) d count = λ k e l. absurd (omega arith)
-known_after (Seal bytes counter ahead) d count = λ k e l. absurd (omega arith)
-known_after (Unseal bytes) d count = λ k e l. absurd (omega arith)
-known_after PowerOn d count = λ k e l. absurd (omega arith)
+known_after c d count = λ k e l. absurd (omega arith)

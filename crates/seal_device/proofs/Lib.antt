@@ -1,6 +1,9 @@
 pub mod Registers
 pub mod Alike
+pub mod Sealable
+pub mod Owners
 pub mod Known
+pub mod Effects
 pub mod Plans
 pub mod Values
 pub mod Tags
