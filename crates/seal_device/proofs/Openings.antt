@@ -3,21 +3,25 @@
 use Rattle.std.proofs.Common.{◌≡◌, ◌≢◌, ℕ, zero, suc, List, [], ◌∷◌, map, Bool}
 use Rattle.std.proofs.Common.{true, false, Option, Some, None, refl, sym, ap, ◌∙◌, subst, arith}
 use Rattle.std.proofs.Common.{All, Contains}
-use Rattle.std.specs.Prelude.{IfSome, IsTrue, Result, bytes_eq}
-use Rattle.std.specs.Option.{option_map}
+use Rattle.std.specs.Prelude.{IfSome, IsTrue, Result, Err, bytes_eq, if◌then◌else◌}
+use Rattle.std.specs.Option.{option_map, ok_or}
 use Rattle.std.proofs.lemmas.Bool.{and_parts}
 use Rattle.std.proofs.lemmas.List.Elements.{All-contains}
 use Rattle.std.proofs.lemmas.Slice.Eq.{bytes_eq-Decides}
 use Rattle.tpm_state.specs.Chain.{Start, Zeros, Ones, Chain, From, ◌▷◌, value}
+use Rattle.tpm_state.specs.Counters.{Counter, Counters, counter_at, counter_map, counters_map}
+use Rattle.tpm_state.specs.Counters.{increment}
+use Rattle.tpm_state.specs.CounterLaws.{mapped_at, mapped_increment}
 use Rattle.seal_device.specs.Keys.{Keys}
-use Rattle.seal_device.specs.Sealed.{Sealed, InRange, with_chain_by}
+use Rattle.seal_device.specs.Sealed.{Bearing, Sealed, InRange, with_chain_by}
+use Rattle.seal_device.specs.Bearings.{has_value, has_next, counter_stands, content, awaited}
 use Rattle.seal_device.specs.Blobs.{tag_ok, parsed}
-use Rattle.seal_device.specs.Sealing.{present_chain, open_blob}
-use Rattle.seal_device.specs.Commands.{Unseal}
+use Rattle.seal_device.specs.Sealing.{with_keys, present_chain, open_blob}
+use Rattle.seal_device.specs.Commands.{Unseal, CheckNext, Increment, with_counters}
 use Rattle.seal_device.specs.Digests.{DigestDevice, digests}
 use Rattle.seal_device.specs.Lists.{ListDevice, lists, same_start, same_chain, blob_of, record_of}
 use Rattle.seal_device.specs.Ledger.{Ledger, Clean, WasMade}
-use Rattle.seal_device.specs.Agreement.{digested, Noted, blobs}
+use Rattle.seal_device.specs.Agreement.{digested, reply_digested, Noted, blobs}
 use Rattle.seal_device.specs.Refusals.Unseal as unseals
 use Rattle.seal_device.proofs.Alike.{Alike, present_alike, with_keys_alike}
 use Rattle.seal_device.proofs.BlobLaws.{tag_ok-blob, parsed-blob}
@@ -186,30 +190,46 @@ read_alike keys made p fits was = by_test (tag_ok keys p) refl where
 
 -- ---- and opens alike
 
+-- what is found in a record by digests is what is found in it by lists
+abbrev pub FoundAlike : {X : Type 0} → (Sealed Chain → Option X) → (Sealed (List ℕ) → Option X) →
+    Type 0
+FoundAlike found shown = (r : Sealed Chain) → shown (with_chain_by value r) ≡ found r
+
 -- a record opens alike, if its strings were hashed
-opened_alike : (d : ListDevice) (ledger : Ledger) → Noted d ledger → Clean ledger.hashed →
-    (o : Option (Sealed Chain)) → IfSome o (λ r. Hashed ledger.hashed r.chain) →
-    open_blob digests (digested d) (option_map (with_chain_by value) o) ≡ open_blob lists d o
-opened_alike d ledger noted clean None known = refl
-opened_alike d ledger noted clean (Some r) known =
+opened_alike : {X : Type 0} (d : ListDevice) (ledger : Ledger) (found : Sealed Chain → Option X)
+    (shown : Sealed (List ℕ) → Option X) → Noted d ledger → Clean ledger.hashed →
+    FoundAlike found shown → (o : Option (Sealed Chain)) →
+    IfSome o (λ r. Hashed ledger.hashed r.chain) →
+    open_blob digests (digested d) shown (option_map (with_chain_by value) o)
+    ≡ open_blob lists d found o
+opened_alike d ledger found shown noted clean alike None known = refl
+opened_alike {X} d ledger found shown noted clean alike (Some r) known =
     let same : bytes_eq (value r.chain) (value (present_chain lists d))
     ≡ same_chain r.chain (present_chain lists d) =
     same_alike ledger.hashed clean r.chain (present_chain lists d) known
     (present_hashed d ledger noted) in
-    rw (present_alike d, same) refl
+    ap (λ (present : List ℕ). opens (bytes_eq (value r.chain) present) (shown (with_chain_by value r)))
+    (present_alike d)
+    ∙ ap (λ (b : Bool). opens b (shown (with_chain_by value r))) same
+    ∙ ap (opens (same_chain r.chain (present_chain lists d))) (alike r) where
+      opens : Bool → Option X → Result X unseals.Refusal
+      opens b o = if b then ok_or o unseals.WrongCounter else Err unseals.WrongChain
 
 -- so does what is found
-opened_found : (d : ListDevice) (ledger : Ledger) → Noted d ledger → Clean ledger.hashed →
-    (keys : Keys) (p : List ℕ) → d.keys ≡ Some keys →
-    (IsTrue (tag_ok keys p) → Contains ledger.made p) →
-    open_blob digests (digested d) (parsed keys p)
-    ≡ open_blob lists d (record_of keys d.made p)
-opened_found d ledger noted clean keys p is was =
+opened_found : {X : Type 0} (d : ListDevice) (ledger : Ledger) (found : Sealed Chain → Option X)
+    (shown : Sealed (List ℕ) → Option X) → Noted d ledger → Clean ledger.hashed →
+    FoundAlike found shown → (p : List ℕ) → WasMade d.keys p ledger →
+    (keys : Keys) → d.keys ≡ Some keys →
+    open_blob digests (digested d) shown (parsed keys p)
+    ≡ open_blob lists d found (record_of keys d.made p)
+opened_found d ledger found shown noted clean alike p was keys is =
     let made : map (blob_of keys) d.made ≡ ledger.made =
     sym (ap (λ (k : Option Keys). blobs k d.made) is) ∙ noted.made in
-    ap (open_blob digests (digested d)) (read_alike keys d.made p noted.in_range
-    (λ ok. subst (λ (all : List (List ℕ)). Contains all p) (sym made) (was ok)))
-    ∙ opened_alike d ledger noted clean (record_of keys d.made p)
+    let here : IsTrue (tag_ok keys p) → Contains ledger.made p =
+    subst (λ (k : Option Keys). WasMade k p ledger) is was in
+    ap (open_blob digests (digested d) shown) (read_alike keys d.made p noted.in_range
+    (λ ok. subst (λ (all : List (List ℕ)). Contains all p) (sym made) (here ok)))
+    ∙ opened_alike d ledger found shown noted clean alike (record_of keys d.made p)
     (known (record_of keys d.made p) (found_in keys d.made p)) where
       known : (o : Option (Sealed Chain)) →
           IfSome o (λ r. Contains d.made r × (blob_of keys r ≡ p)) →
@@ -218,12 +238,75 @@ opened_found d ledger noted clean keys p is was =
       known (Some r) one =
           All-contains (λ s. Hashed ledger.hashed s.chain) d.made r noted.records one.0
 
+-- a command that opens a blob, and changes nothing, does so alike
+opening_alike : {X : Type 0} (d : ListDevice) (ledger : Ledger) (found : Sealed Chain → Option X)
+    (shown : Sealed (List ℕ) → Option X) → Noted d ledger → Clean ledger.hashed →
+    FoundAlike found shown → (p : List ℕ) → WasMade d.keys p ledger →
+    with_keys unseals.Unprovisioned (digested d)
+    (λ keys. (digested d, open_blob digests (digested d) shown (parsed keys p))) d.keys
+    ≡ reply_digested (with_keys unseals.Unprovisioned d
+    (λ keys. (d, open_blob lists d found (record_of keys d.made p))) d.keys)
+opening_alike {X} d ledger found shown noted clean alike p was =
+    with_keys_alike unseals.Unprovisioned d _ _ d.keys (λ keys is.
+    ap (λ (reply : Result X unseals.Refusal).
+    let end : DigestDevice × Result X unseals.Refusal = (digested d, reply) in end)
+    (opened_found d ledger found shown noted clean alike p was keys is))
+
+-- ---- what is found in a record
+
+-- a counter has a value by other owners, or a next one, where it has it here
+has_value_alike : {G H : Type 0} (f : G → H) (value : ℕ) (o : Option (Counter G)) →
+    has_value value (option_map (counter_map f) o) ≡ has_value value o
+has_value_alike f value None = refl
+has_value_alike f value (Some counter) = refl
+
+has_next_alike : {G H : Type 0} (f : G → H) (value : ℕ) (o : Option (Counter G)) →
+    has_next value (option_map (counter_map f) o) ≡ has_next value o
+has_next_alike f value None = refl
+has_next_alike f value (Some counter) = refl
+
+-- the counter that is borne stands by other owners where it stands here
+stands_alike : {G H : Type 0} (f : G → H) (c : Counters G) (borne : Option Bearing) →
+    counter_stands (counters_map f c) borne ≡ counter_stands c borne
+stands_alike f c None = refl
+stands_alike f c (Some b) =
+    ap (has_value b.value) (mapped_at f c b.id) ∙ has_value_alike f b.value (counter_at c b.id)
+
+-- and is awaited where it is awaited here
+awaited_alike : {G H : Type 0} (f : G → H) (c : Counters G) (borne : Option Bearing) →
+    awaited (counters_map f c) borne ≡ awaited c borne
+awaited_alike f c None = refl
+awaited_alike f c (Some b) =
+    ap (λ (next : Bool). if next then Some b.id else None)
+    (ap (has_next b.value) (mapped_at f c b.id) ∙ has_next_alike f b.value (counter_at c b.id))
+
+-- what a record holds is found in it alike
+content_alike : (c : Counters Chain) → FoundAlike (content c) (content (counters_map value c))
+content_alike c r =
+    ap (λ (stands : Bool). if stands then Some r.bytes else None) (stands_alike value c r.counter)
+
+-- ---- the commands that compare
+
 pub unseal_alike : (p : List ℕ) (d : ListDevice) (ledger : Ledger) → Noted d ledger →
     Clean ledger.hashed → WasMade d.keys p ledger → Alike (Unseal p) d
 unseal_alike p d ledger noted clean was =
-    with_keys_alike unseals.Unprovisioned d _ _ d.keys (λ keys is.
-    ap (λ (reply : Result (List ℕ) unseals.Refusal).
-    let end : DigestDevice × Result (List ℕ) unseals.Refusal = (digested d, reply) in end)
-    (opened_found d ledger noted clean keys p is
-    (subst (λ (k : Option Keys).
-    IfSome k (λ keys. IsTrue (tag_ok keys p) → Contains ledger.made p)) is was)))
+    opening_alike d ledger (content d.counters) (content (counters_map value d.counters)) noted
+    clean (content_alike d.counters) p was
+
+pub check_next_alike : (p : List ℕ) (d : ListDevice) (ledger : Ledger) → Noted d ledger →
+    Clean ledger.hashed → WasMade d.keys p ledger → Alike (CheckNext p) d
+check_next_alike p d ledger noted clean was =
+    opening_alike d ledger (λ r. awaited d.counters r.counter)
+    (λ r. awaited (counters_map value d.counters) r.counter) noted clean
+    (λ r. awaited_alike value d.counters r.counter) p was
+
+pub increment_alike : (id : ℕ) (d : ListDevice) (ledger : Ledger) → Noted d ledger →
+    Clean ledger.hashed → Alike (Increment id) d
+increment_alike id d ledger noted clean =
+    ap (λ (who : List ℕ).
+    with_counters (digested d) (increment bytes_eq id who (counters_map value d.counters)))
+    (present_alike d)
+    ∙ ap (with_counters (digested d))
+    (mapped_increment value same_chain bytes_eq id (present_chain lists d) d.counters
+    (λ counter at. same_alike ledger.hashed clean counter.owner (present_chain lists d)
+    (noted.owners id counter at) (present_hashed d ledger noted)))

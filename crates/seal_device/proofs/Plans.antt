@@ -9,8 +9,8 @@ use Rattle.flk_base.specs.Stop.{Limit, limited, Fused, with_fuse, end_of, fused}
 use Rattle.flk_base.specs.StopLaws.{only-limited}
 use Rattle.std.proofs.lemmas.List.Elements.{Contains-append_left}
 use Rattle.seal_device.specs.Rules.{Device, Rules}
-use Rattle.seal_device.specs.Commands.{Command, Provision, Measure, Extend, ReadRegister, Seal, Unseal}
-use Rattle.seal_device.specs.Commands.{PowerOn, Reply, act, blank, compares, costs}
+use Rattle.seal_device.specs.Commands.{Command, Unseal, CheckNext, Increment, Reply, act, blank}
+use Rattle.seal_device.specs.Commands.{compares, costs}
 use Rattle.seal_device.specs.Digests.{DigestDevice, digests, on_device}
 use Rattle.seal_device.specs.Ledger.{Ledger, no_ledger, Clean, Unforged, Fair, noted, hashed_by}
 use Rattle.seal_device.specs.Ledger.{made_by, ledger_after}
@@ -19,7 +19,7 @@ use Rattle.seal_device.specs.Agreement.{digested, fused_digested, end_digested, 
 use Rattle.seal_device.specs.Agreement.{FusedAgree, FairPlan, UnforgedPlan, ComparesNothing}
 use Rattle.seal_device.proofs.Alike.{Alike, alike, hashed_alike}
 use Rattle.seal_device.proofs.Known.{with_more, stays_noted, blank_noted}
-use Rattle.seal_device.proofs.Openings.{unseal_alike}
+use Rattle.seal_device.proofs.Openings.{unseal_alike, check_next_alike, increment_alike}
 
 -- ---- plans that compare nothing
 
@@ -75,16 +75,16 @@ clean_before h more clean = record {
 fair_alike : (c : Command) (d : ListDevice) (ledger : Ledger) →
     Fair digests c (digested d, ledger) →
     Noted d ledger → Alike c d
-fair_alike (Provision seed) d ledger fair noted = alike (Provision seed) d refl
-fair_alike (Measure image) d ledger fair noted = alike (Measure image) d refl
-fair_alike (Extend r text) d ledger fair noted = alike (Extend r text) d refl
-fair_alike (ReadRegister r) d ledger fair noted = alike (ReadRegister r) d refl
-fair_alike (Seal bytes counter ahead) d ledger fair noted =
-    alike (Seal bytes counter ahead) d refl
 fair_alike (Unseal bytes) d ledger fair noted =
     let here = fair refl in
     unseal_alike bytes d ledger noted (clean_before ledger.hashed [] here.0) here.1
-fair_alike PowerOn d ledger fair noted = alike PowerOn d refl
+fair_alike (CheckNext bytes) d ledger fair noted =
+    let here = fair refl in
+    check_next_alike bytes d ledger noted (clean_before ledger.hashed [] here.0) here.1
+fair_alike (Increment id) d ledger fair noted =
+    let here = fair refl in
+    increment_alike id d ledger noted (clean_before ledger.hashed [] here.0)
+fair_alike c d ledger fair noted = alike c d refl
 
 -- the law of one command: where it is fair it is answered alike, and agreement is kept
 fair_law : AnswerAlike (noted lists) (noted digests) (Fair digests) Agrees
