@@ -1,48 +1,34 @@
--- What commands do to the keys and to the serial, by any rules.
-use Rattle.std.proofs.Common.{◌≡◌, ℕ, ◌<◌, ◌≤◌, ◌^◌, Option, Some, None, refl, sym}
-use Rattle.std.proofs.Common.{◌∙◌, arith}
-use Rattle.std.proofs.lemmas.Bool.{eqb-false}
-use Rattle.std.specs.Prelude.{slice_get}
-use Rattle.seal_device.specs.Keys.{Keys, keys_of}
+-- What commands do to the keys, to the serial and to the count of random words, by any rules.
+use Rattle.std.proofs.Common.{◌≡◌, ◌≢◌, ℕ, ◌+◌, ◌<◌, ◌≤◌, ◌^◌, Bool, true, false, eqb, List, Option}
+use Rattle.std.proofs.Common.{Some, None, Result, Ok, Err, refl, sym, ap, ◌∙◌, arith}
+use Rattle.std.specs.Prelude.{if◌then◌else◌}
+use Rattle.std.proofs.lemmas.Bool.{ne_eqb, eq-eqb}
+use Rattle.seal_device.specs.Keys.{Keys}
+use Rattle.seal_device.specs.Sealed.{Bearing}
 use Rattle.seal_device.specs.Rules.{Device, Rules}
-use Rattle.seal_device.specs.Sealing.{provision, with_keys, seal, seal_unless, seal_refusal, unseal}
-use Rattle.seal_device.specs.Sealing.{last_serial}
-use Rattle.seal_device.specs.Commands.{Command, Provision, Measure, Extend, ReadRegister, Seal, Unseal}
-use Rattle.seal_device.specs.Commands.{PowerOn, act, extend}
+use Rattle.seal_device.specs.Drawing.{draw, last_word, random_word}
+use Rattle.seal_device.specs.Sealing.{with_keys, seal, seal_with, seal_bearing}
+use Rattle.seal_device.specs.Commands.{Command, Seal, Random, act}
 use Rattle.seal_device.specs.Refusals.Seal as seals
-use Rattle.seal_device.specs.Refusals.Unseal as unseals
-use Rattle.seal_device.proofs.Known.{no_refusal_is}
+use Rattle.seal_device.specs.Refusals.Random as randoms
+use Rattle.seal_device.proofs.Sealable.{sealable}
+use Rattle.seal_device.proofs.Effects.{after_each}
 
 -- keys that are there stay
 pub keys_stay : {H M : Type 0} (R : Rules H M) (c : Command) (d : Device H M) (keys : Keys) →
     d.keys ≡ Some keys → (act R c d).0.keys ≡ Some keys
-keys_stay R (Provision seed) d keys is = by_keys d.keys refl where
-  by_keys : (k : Option Keys) → d.keys ≡ k →
-      (provision (keys_of seed) d k).0.keys ≡ Some keys
-  by_keys None none = absurd (let clash : None ≡ Some keys = sym none ∙ is in cc)
-  by_keys (Some others) same = is
-keys_stay R (Measure image) d keys is = is
-keys_stay {H} R (Extend r text) d keys is = by_chain (slice_get d.chains r) where
-  by_chain : (o : Option H) → (extend R r text d o).0.keys ≡ Some keys
-  by_chain None = is
-  by_chain (Some chain) = is
-keys_stay R (ReadRegister r) d keys is = is
-keys_stay R (Seal bytes counter ahead) d keys is = by_keys d.keys where
-  by_refusal : (k : Keys) (o : Option seals.Refusal) →
-      (seal_unless R bytes d k o).0.keys ≡ Some keys
-  by_refusal k None = is
-  by_refusal k (Some refusal) = is
-
-  by_keys : (k : Option Keys) →
-      (with_keys seals.Unprovisioned d (seal R bytes counter d) k).0.keys ≡ Some keys
-  by_keys None = is
-  by_keys (Some k) = by_refusal k (seal_refusal d.serial bytes counter)
-keys_stay R (Unseal bytes) d keys is = by_keys d.keys where
-  by_keys : (k : Option Keys) →
-      (with_keys unseals.Unprovisioned d (unseal R bytes d) k).0.keys ≡ Some keys
-  by_keys None = is
-  by_keys (Some k) = is
-keys_stay R PowerOn d keys is = is
+keys_stay {H} {M} R c d keys is =
+    after_each R c d (λ (e : Device H M). e.keys ≡ Some keys) (record {
+      nothing = is;
+      seeded = λ others none. absurd (let clash : None ≡ Some keys = sym none ∙ is in cc);
+      measured = λ image. is;
+      extended = λ r text chain there. is;
+      sealed = λ bytes counter ahead borne ok. is;
+      created = is;
+      incremented = λ id. is;
+      drawn = λ one less. is;
+      powered = is;
+    })
 
 -- a serial that is not below this one, and is in its range
 abbrev pub FromTo : ℕ → ℕ → Type 0
@@ -51,32 +37,35 @@ FromTo serial next = (serial ≤ next) × (next < 2 ^ 64)
 -- the serial never falls, and stays in its range
 pub serial_stays : {H M : Type 0} (R : Rules H M) (c : Command) (d : Device H M) →
     d.serial < 2 ^ 64 → FromTo d.serial (act R c d).0.serial
-serial_stays R (Provision seed) d low = by_keys d.keys where
-  by_keys : (k : Option Keys) → FromTo d.serial (provision (keys_of seed) d k).0.serial
-  by_keys None = (omega arith, low)
-  by_keys (Some others) = (omega arith, low)
-serial_stays R (Measure image) d low = (omega arith, low)
-serial_stays {H} R (Extend r text) d low = by_chain (slice_get d.chains r) where
-  by_chain : (o : Option H) → FromTo d.serial (extend R r text d o).0.serial
-  by_chain None = (omega arith, low)
-  by_chain (Some chain) = (omega arith, low)
-serial_stays R (ReadRegister r) d low = (omega arith, low)
-serial_stays R (Seal bytes counter ahead) d low = by_keys d.keys where
-  by_refusal : (k : Keys) (o : Option seals.Refusal) → seal_refusal d.serial bytes counter ≡ o →
-      FromTo d.serial (seal_unless R bytes d k o).0.serial
-  by_refusal k (Some refusal) is = (omega arith, low)
-  by_refusal k None is =
-      let other =
-      eqb-false d.serial last_serial (no_refusal_is d.serial bytes counter is).2 in
-      (omega arith, omega arith)
+serial_stays {H} {M} R c d low =
+    let same : FromTo d.serial d.serial = (omega arith, low) in
+    after_each R c d (λ (e : Device H M). FromTo d.serial e.serial) (record {
+      nothing = same;
+      seeded = λ others none. same;
+      measured = λ image. same;
+      extended = λ r text chain there. same;
+      sealed = λ bytes counter ahead borne ok.
+          let told = sealable d.serial d.counters bytes counter ahead borne ok in
+          let free = told.free in
+          (omega arith, omega arith);
+      created = same;
+      incremented = λ id. same;
+      drawn = λ one less. same;
+      powered = same;
+    })
 
-  by_keys : (k : Option Keys) →
-      FromTo d.serial (with_keys seals.Unprovisioned d (seal R bytes counter d) k).0.serial
-  by_keys None = (omega arith, low)
-  by_keys (Some k) = by_refusal k (seal_refusal d.serial bytes counter) refl
-serial_stays R (Unseal bytes) d low = by_keys d.keys where
-  by_keys : (k : Option Keys) →
-      FromTo d.serial (with_keys unseals.Unprovisioned d (unseal R bytes d) k).0.serial
-  by_keys None = (omega arith, low)
-  by_keys (Some k) = (omega arith, low)
-serial_stays R PowerOn d low = (omega arith, low)
+-- no command but one draws a word
+pub words_stay : {H M : Type 0} (R : Rules H M) (c : Command) (d : Device H M) → c ≢ Random →
+    (act R c d).0.drawn ≡ d.drawn
+words_stay {H} {M} R c d other =
+    after_each R c d (λ (e : Device H M). e.drawn ≡ d.drawn) (record {
+      nothing = refl;
+      seeded = λ others none. refl;
+      measured = λ image. refl;
+      extended = λ r text chain there. refl;
+      sealed = λ bytes counter ahead borne ok. refl;
+      created = refl;
+      incremented = λ id. refl;
+      drawn = λ one less. absurd (other one);
+      powered = refl;
+    })
