@@ -3,7 +3,7 @@ use Rattle.std.proofs.Common.{◌≡◌, ◌≢◌, ℕ, ◌+◌, Bool, true, fa
 use Rattle.std.proofs.Common.{Result, Ok, Err, refl}
 use Rattle.std.specs.Prelude.{slice_get, if◌then◌else◌}
 use Rattle.std.proofs.lemmas.Bool.{eqb-false}
-use Rattle.tpm_state.specs.Counters.{create, increment}
+use Rattle.tpm_state.specs.Counters.{Counters, create, increment}
 use Rattle.seal_device.specs.Keys.{Keys, keys_of}
 use Rattle.seal_device.specs.Sealed.{Bearing}
 use Rattle.seal_device.specs.Rules.{Device, Rules}
@@ -82,3 +82,22 @@ after_each {H} {M} R Random d P each =
       by_last keys true is = each.nothing
       by_last keys false is = each.drawn refl (eqb-false d.drawn last_word is)
 after_each R PowerOn d P each = each.powered
+
+-- what is said of the counters alone needs only what creations and increments do
+pub counters_after : {H M : Type 0} (R : Rules H M) (c : Command) (d : Device H M)
+    (P : Counters H → Type 0) → P d.counters →
+    P (create (present_chain R d) d.counters).0 →
+    ((id : ℕ) → P (increment R.same id (present_chain R d) d.counters).0) →
+    P (act R c d).0.counters
+counters_after {H} {M} R c d P nothing created incremented =
+    after_each R c d (λ (e : Device H M). P e.counters) (record {
+      nothing = nothing;
+      seeded = λ keys none. nothing;
+      measured = λ image. nothing;
+      extended = λ r text chain there. nothing;
+      sealed = λ bytes counter ahead borne ok. nothing;
+      created = created;
+      incremented = incremented;
+      drawn = λ one less. nothing;
+      powered = nothing;
+    })

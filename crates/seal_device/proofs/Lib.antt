@@ -4,6 +4,7 @@ pub mod Sealable
 pub mod Owners
 pub mod Known
 pub mod Effects
+pub mod Counting
 pub mod Plans
 pub mod Values
 pub mod Tags
