@@ -1,62 +1,54 @@
 -- A record that was sealed stays on a device of lists, and its blob opens to it.
-use Rattle.std.proofs.Common.{◌≡◌, ◌≢◌, ℕ, List, [], ◌∷◌, map, get_or, inl, inr, Bool, true}
+use Rattle.std.proofs.Common.{◌≡◌, ◌≢◌, ℕ, ◌<◌, List, [], ◌∷◌, map, get_or, inl, inr, Bool, true}
 use Rattle.std.proofs.Common.{false, Option, Some, None, refl, sym, ap, ◌∙◌, subst, arith, Contains}
-use Rattle.std.specs.Prelude.{IfSome, Result, Ok, Err, slice_get}
+use Rattle.std.specs.Prelude.{IfSome, Result, Ok, Err, if◌then◌else◌}
+use Rattle.std.specs.Option.{ok_or}
 use Rattle.std.proofs.lemmas.List.{length-map, get_or-map, get_or_default}
-use Rattle.std.proofs.lemmas.Bool.{cases_lt}
+use Rattle.std.proofs.lemmas.Bool.{cases_lt, eqb-true, ne_eqb}
 use Rattle.std.proofs.lemmas.List.Elements.{All-contains, Contains-append_left, Contains-push}
 use Rattle.flk_base.specs.Plan.{Plan, run}
 use Rattle.flk_base.specs.PlanLaws.{plans_keep}
-use Rattle.flk_base.specs.Stop.{Limit, limited, with_fuse, fused}
+use Rattle.flk_base.specs.Stop.{Limit, limited, Fused, with_fuse, fused}
 use Rattle.tpm_state.specs.Chain.{Chain, value}
-use Rattle.seal_device.specs.Keys.{Keys, keys_of}
+use Rattle.tpm_state.specs.Counters.{Counter, Counters, counter_at, read, value_or_refused, Grew}
+use Rattle.seal_device.specs.Keys.{Keys}
 use Rattle.seal_device.specs.Sealed.{Bearing, Sealed, InRange, with_chain_by}
 use Rattle.seal_device.specs.Blobs.{parsed}
-use Rattle.seal_device.specs.Sealing.{provision, with_keys, present_chain, new_record, with_record}
-use Rattle.seal_device.specs.Sealing.{seal, seal_unless, seal_refusal, unseal, open_blob, open_record}
-use Rattle.seal_device.specs.Sealing.{counter_stands}
-use Rattle.seal_device.specs.Commands.{Command, Provision, Measure, Extend, ReadRegister, Seal, Unseal}
-use Rattle.seal_device.specs.Commands.{PowerOn, Reply, act, extend, costs}
+use Rattle.seal_device.specs.Bearings.{bearing, has_value, counter_stands, Stands, content, awaited}
+use Rattle.seal_device.specs.Sealing.{with_keys, present_chain, new_record, with_record}
+use Rattle.seal_device.specs.Sealing.{seal, seal_with, seal_bearing, unseal, check_next, open_blob}
+use Rattle.seal_device.specs.Sealing.{open_record}
+use Rattle.seal_device.specs.Commands.{Command, Seal, Unseal, CheckNext, Reply, act, costs}
 use Rattle.seal_device.specs.Ledger.{Ledger, noted}
 use Rattle.seal_device.specs.Lists.{ListDevice, lists, same_chain, blob_of, record_of, OpensTo}
 use Rattle.seal_device.specs.Agreement.{Noted, SerialsRise}
 use Rattle.seal_device.specs.Refusals.Seal as seals
 use Rattle.seal_device.specs.Refusals.Unseal as unseals
+use Rattle.seal_device.proofs.Counting.{grow_over_plans}
+use Rattle.seal_device.proofs.Effects.{after_each}
 use Rattle.seal_device.proofs.Known.{stays_noted}
 use Rattle.seal_device.proofs.Openings.{found, not_found, found_in, parsed-blob_of, same_chain_is}
 use Rattle.seal_device.proofs.Openings.{chain_itself}
 use Rattle.seal_device.proofs.Plans.{unnoted}
+use Rattle.seal_device.proofs.Sealable.{sealable}
 use Rattle.seal_device.proofs.Serials.{keys_stay}
 
 -- a record stays where it is kept
 record_stays : (c : Command) (d : ListDevice) (r : Sealed Chain) → Contains d.made r →
     Contains (act lists c d).0.made r
-record_stays (Provision seed) d r there = by_keys d.keys where
-  by_keys : (k : Option Keys) → Contains (provision (keys_of seed) d k).0.made r
-  by_keys None = there
-  by_keys (Some others) = there
-record_stays (Measure image) d r there = there
-record_stays (Extend n text) d r there = by_chain (slice_get d.chains n) where
-  by_chain : (o : Option Chain) → Contains (extend lists n text d o).0.made r
-  by_chain None = there
-  by_chain (Some chain) = there
-record_stays (ReadRegister n) d r there = there
-record_stays (Seal bytes counter ahead) d r there = by_keys d.keys where
-  by_refusal : (k : Keys) (o : Option seals.Refusal) →
-      Contains (seal_unless lists bytes d k o).0.made r
-  by_refusal k None = Contains-append_left d.made (new_record lists bytes d ∷ []) r there
-  by_refusal k (Some refusal) = there
-
-  by_keys : (k : Option Keys) →
-      Contains (with_keys seals.Unprovisioned d (seal lists bytes counter d) k).0.made r
-  by_keys None = there
-  by_keys (Some k) = by_refusal k (seal_refusal d.serial bytes counter)
-record_stays (Unseal bytes) d r there = by_keys d.keys where
-  by_keys : (k : Option Keys) →
-      Contains (with_keys unseals.Unprovisioned d (unseal lists bytes d) k).0.made r
-  by_keys None = there
-  by_keys (Some k) = there
-record_stays PowerOn d r there = there
+record_stays c d r there =
+    after_each lists c d (λ (e : ListDevice). Contains e.made r) (record {
+      nothing = there;
+      seeded = λ keys none. there;
+      measured = λ image. there;
+      extended = λ n text chain at. there;
+      sealed = λ bytes counter ahead borne ok.
+          Contains-append_left d.made (new_record lists bytes borne d ∷ []) r there;
+      created = there;
+      incremented = λ id. there;
+      drawn = λ one less. there;
+      powered = there;
+    })
 
 -- a device keeps a record under its keys, and its ledger has what it knows
 pub record Keeps (keys : Keys) (r : Sealed Chain) (w : ListDevice × Ledger) : Type 0 where
@@ -114,137 +106,347 @@ found_again d ledger keys r noted there =
     let serials = ap (λ (x : Sealed (List ℕ)). x.serial) shown in
     one.3 ∙ ap (λ (x : Sealed Chain). Some x) (same_serial d.made s r noted.rise one.1 there serials)
 
--- what unsealing comes to with these keys
+-- what opening comes to with these keys
 pub unseal_with : (d : ListDevice) (keys : Keys) (bytes : List ℕ) → d.keys ≡ Some keys →
-    act lists (Unseal bytes) d ≡ (d, open_blob lists d (record_of keys d.made bytes))
+    act lists (Unseal bytes) d
+    ≡ (d, open_blob lists d (content d.counters) (record_of keys d.made bytes))
 unseal_with d keys bytes is =
     ap (λ (k : Option Keys). with_keys unseals.Unprovisioned d (unseal lists bytes d) k) is
 
--- so the blob of a record that is kept comes to what the record does
-record_opens : (d : ListDevice) (ledger : Ledger) (keys : Keys) (r : Sealed Chain) →
-    Keeps keys r (d, ledger) → act lists (Unseal (blob_of keys r)) d ≡ (d, open_record lists d r)
-record_opens d ledger keys r keeps =
-    unseal_with d keys (blob_of keys r) keeps.provisioned
-    ∙ ap (λ (o : Option (Sealed Chain)).
-    let end : ListDevice × Result (List ℕ) unseals.Refusal = (d, open_blob lists d o) in end)
-    (found_again d ledger keys r keeps.known keeps.kept)
+pub check_with : (d : ListDevice) (keys : Keys) (bytes : List ℕ) → d.keys ≡ Some keys →
+    act lists (CheckNext bytes) d
+    ≡ (d, open_blob lists d (λ r. awaited d.counters r.counter) (record_of keys d.made bytes))
+check_with d keys bytes is =
+    ap (λ (k : Option Keys). with_keys unseals.Unprovisioned d (check_next lists bytes d) k) is
+
+-- a device keeps a record under its keys, by some ledger that has what it knows
+abbrev pub KeptBy : Keys → Sealed Chain → ListDevice → Type 0
+KeptBy keys r d = (ledger : Ledger) × Keeps keys r (d, ledger)
+
+-- a plan leaves it kept, wherever its fuse stops it
+pub kept_later : {X : Type 0} (keys : Keys) (r : Sealed Chain) (plan : Plan Command Reply X)
+    (before : Fused ListDevice) → KeptBy keys r before.state →
+    KeptBy keys r (fused costs (act lists) plan before).0.state
+kept_later keys r plan before kept =
+    let short = limited costs plan before.fuse in
+    let w : ListDevice × Ledger = (before.state, kept.0) in
+    let end = (run (noted lists) short w).0 in
+    let keeps : Keeps keys r end =
+    plans_keep (noted lists) (Keeps keys r) (keeps_stays keys r) short w kept.1 in
+    let same : end.0 ≡ (run (act lists) short before.state).0 =
+    (unnoted lists short before.state kept.0).0 in
+    subst (KeptBy keys r) same (end.1, keeps)
+
+-- what the blob of a record that is kept comes to, whatever is looked for in it
+kept_opens : {X : Type 0} (d : ListDevice) (keys : Keys) (r : Sealed Chain)
+    (find : Sealed Chain → Option X) → KeptBy keys r d →
+    open_blob lists d find (record_of keys d.made (blob_of keys r)) ≡ open_record lists d find r
+kept_opens d keys r find kept =
+    let keeps = kept.1 in
+    ap (open_blob lists d find) (found_again d kept.0 keys r keeps.known keeps.kept)
 
 -- ---- what sealing leaves
 
 -- bytes were sealed with these keys: the record is kept, and its blob was given
-pub record SealedNow (d : ListDevice) (bytes blob : List ℕ)
-    (end : ListDevice × Result (List ℕ) seals.Refusal) : Type 0 where
-  pub keys : Keys
-  pub provisioned : d.keys ≡ Some keys
-  pub after : end.0 ≡ with_record lists (new_record lists bytes d) d
-  pub is : blob ≡ blob_of keys (new_record lists bytes d)
+pub record SealedNow (d : ListDevice) (bytes : List ℕ) (counter : Option ℕ) (ahead : Bool)
+    (blob : List ℕ) (end : ListDevice × Result (List ℕ) seals.Refusal) : Type 0
+  where
+    pub keys : Keys
+    pub borne : Option Bearing
+    pub provisioned : d.keys ≡ Some keys
+    pub borne_is : bearing d.counters counter ahead ≡ Ok borne
+    pub after : end.0 ≡ with_record lists (new_record lists bytes borne d) d
+    pub is : blob ≡ blob_of keys (new_record lists bytes borne d)
 
-sealed_now : (d : ListDevice) (bytes : List ℕ) (counter : Option ℕ) (ahead : Bool)
+pub sealed_now : (d : ListDevice) (bytes : List ℕ) (counter : Option ℕ) (ahead : Bool)
     (blob : List ℕ) → (act lists (Seal bytes counter ahead) d).1 ≡ Ok blob →
-    SealedNow d bytes blob (act lists (Seal bytes counter ahead) d)
+    SealedNow d bytes counter ahead blob (act lists (Seal bytes counter ahead) d)
 sealed_now d bytes counter ahead blob ok = by_keys d.keys refl ok where
-  by_refusal : (keys : Keys) → d.keys ≡ Some keys → (o : Option seals.Refusal) →
-      (seal_unless lists bytes d keys o).1 ≡ Ok blob →
-      SealedNow d bytes blob (seal_unless lists bytes d keys o)
-  by_refusal keys is (Some refusal) ok = absurd (cc)
-  by_refusal keys is None ok =
+  by_borne : (keys : Keys) → d.keys ≡ Some keys → (o : Result (Option Bearing) seals.Refusal) →
+      seal_bearing d.serial d.counters bytes counter ahead ≡ o →
+      (seal_with lists bytes d keys o).1 ≡ Ok blob →
+      SealedNow d bytes counter ahead blob (seal_with lists bytes d keys o)
+  by_borne keys is (Err refusal) why ok = absurd (cc)
+  by_borne keys is (Ok borne) why ok =
+      let told = sealable d.serial d.counters bytes counter ahead borne why in
       record {
         keys = keys;
+        borne = borne;
         provisioned = is;
+        borne_is = told.borne_is;
         after = refl;
-        is = (let same : blob_of keys (new_record lists bytes d) ≡ blob = cc in sym same);
+        is = (let same : blob_of keys (new_record lists bytes borne d) ≡ blob = cc in sym same);
       }
 
   by_keys : (k : Option Keys) → d.keys ≡ k →
-      (with_keys seals.Unprovisioned d (seal lists bytes counter d) k).1 ≡ Ok blob →
-      SealedNow d bytes blob (with_keys seals.Unprovisioned d (seal lists bytes counter d) k)
+      (with_keys seals.Unprovisioned d (seal lists bytes counter ahead d) k).1 ≡ Ok blob →
+      SealedNow d bytes counter ahead blob
+      (with_keys seals.Unprovisioned d (seal lists bytes counter ahead d) k)
   by_keys None is ok = absurd (cc)
-  by_keys (Some keys) is ok = by_refusal keys is (seal_refusal d.serial bytes counter) ok
+  by_keys (Some keys) is ok =
+      by_borne keys is (seal_bearing d.serial d.counters bytes counter ahead) refl ok
 
--- so later the blob comes to what the record does
-pub later_opens : {X : Type 0} (d : ListDevice) (ledger : Ledger) (bytes : List ℕ)
-    (counter : Option ℕ) (ahead : Bool) (blob : List ℕ) (plan : Plan Command Reply X)
-    (fuse : Limit) → Noted d ledger → (act lists (Seal bytes counter ahead) d).1 ≡ Ok blob →
-    let sealed = (act lists (Seal bytes counter ahead) d).0 in
-    let later = (fused costs (act lists) plan (with_fuse sealed fuse)).0.state in
-    act lists (Unseal blob) later ≡ (later, open_record lists later (new_record lists bytes d))
-later_opens d ledger bytes counter ahead blob plan fuse noted_d ok =
+-- a blob that was given is that of a record, bound to the present chain, that the device keeps
+pub record Given (d : ListDevice) (bytes : List ℕ) (counter : Option ℕ) (ahead : Bool)
+    (blob : List ℕ) (after : ListDevice) : Type 0
+  where
+    pub keys : Keys
+    pub sealed : Sealed Chain
+    pub kept : KeptBy keys sealed after
+    pub is : blob_of keys sealed ≡ blob
+    pub chain : sealed.chain ≡ present_chain lists d
+    pub bytes_are : sealed.bytes ≡ bytes
+    pub borne_is : bearing d.counters counter ahead ≡ Ok sealed.counter
+
+pub given_now : (d : ListDevice) (ledger : Ledger) (bytes : List ℕ) (counter : Option ℕ)
+    (ahead : Bool) (blob : List ℕ) → Noted d ledger →
+    (act lists (Seal bytes counter ahead) d).1 ≡ Ok blob →
+    Given d bytes counter ahead blob (act lists (Seal bytes counter ahead) d).0
+given_now d ledger bytes counter ahead blob known ok =
     let now = sealed_now d bytes counter ahead blob ok in
-    let r = new_record lists bytes d in
+    let r = new_record lists bytes now.borne d in
     let w = (noted lists (Seal bytes counter ahead) (d, ledger)).0 in
-    let first : Keeps now.keys r w =
     record {
-      known = stays_noted (Seal bytes counter ahead) d ledger noted_d;
-      provisioned = keys_stay lists (Seal bytes counter ahead) d now.keys now.provisioned;
-      kept = subst (λ (e : ListDevice). Contains e.made r) (sym now.after)
-          (Contains-push d.made r);
-    } in
-    let short = limited costs plan fuse in
-    let end = (run (noted lists) short w).0 in
-    let keeps : Keeps now.keys r end =
-    plans_keep (noted lists) (Keeps now.keys r) (keeps_stays now.keys r) short w first in
-    let same : end.0 ≡ (run (act lists) short w.0).0 = (unnoted lists short w.0 w.1).0 in
-    subst (λ (later : ListDevice).
-    act lists (Unseal blob) later ≡ (later, open_record lists later r)) same
-    (subst (λ (p : List ℕ). act lists (Unseal p) end.0 ≡ (end.0, open_record lists end.0 r))
-    (sym now.is) (record_opens end.0 end.1 now.keys r keeps))
+      keys = now.keys;
+      sealed = r;
+      kept = (
+        w.1,
+        record {
+          known = stays_noted (Seal bytes counter ahead) d ledger known;
+          provisioned = keys_stay lists (Seal bytes counter ahead) d now.keys now.provisioned;
+          kept = subst (λ (e : ListDevice). Contains e.made r) (sym now.after)
+              (Contains-push d.made r);
+        },
+      );
+      is = sym now.is;
+      chain = refl;
+      bytes_are = refl;
+      borne_is = now.borne_is;
+    }
 
--- what a record without a counter comes to, in its chain and in another
-pub in_chain : (d : ListDevice) (r : Sealed Chain) → r.counter ≡ None →
-    present_chain lists d ≡ r.chain → open_record lists d r ≡ Ok r.bytes
-in_chain d r none is =
-    let same : same_chain r.chain (present_chain lists d) ≡ true =
-    rw is (chain_itself r.chain) in
-    let stands : counter_stands r.counter ≡ true = ap counter_stands none in
-    rw (same, stands) refl
+-- after a plan it still is, wherever the fuse stops it
+pub given_later : {X : Type 0} (d : ListDevice) (bytes : List ℕ) (counter : Option ℕ)
+    (ahead : Bool) (blob : List ℕ) (plan : Plan Command Reply X) (before : Fused ListDevice) →
+    Given d bytes counter ahead blob before.state →
+    Given d bytes counter ahead blob (fused costs (act lists) plan before).0.state
+given_later d bytes counter ahead blob plan before given =
+    record {
+      keys = given.keys;
+      sealed = given.sealed;
+      kept = kept_later given.keys given.sealed plan before given.kept;
+      is = given.is;
+      chain = given.chain;
+      bytes_are = given.bytes_are;
+      borne_is = given.borne_is;
+    }
 
-pub in_other : (d : ListDevice) (r : Sealed Chain) → present_chain lists d ≢ r.chain →
-    open_record lists d r ≡ Err unseals.WrongChain
-in_other d r other = by_test (same_chain r.chain (present_chain lists d)) refl where
+-- what unsealing it comes to, and trying it for the next value of its counter
+pub unseals_given : (d : ListDevice) (bytes : List ℕ) (counter : Option ℕ) (ahead : Bool)
+    (blob : List ℕ) (later : ListDevice) → (given : Given d bytes counter ahead blob later) →
+    act lists (Unseal blob) later
+    ≡ (later, open_record lists later (content later.counters) given.sealed)
+unseals_given d bytes counter ahead blob later given =
+    let keeps = given.kept.1 in
+    let opens = unseal_with later given.keys (blob_of given.keys given.sealed) keeps.provisioned
+    ∙ ap (λ (reply : Result (List ℕ) unseals.Refusal).
+    let end : ListDevice × Result (List ℕ) unseals.Refusal = (later, reply) in end)
+    (kept_opens later given.keys given.sealed (content later.counters) given.kept) in
+    subst (λ (p : List ℕ). act lists (Unseal p) later
+    ≡ (later, open_record lists later (content later.counters) given.sealed)) given.is opens
+
+pub tries_given : (d : ListDevice) (bytes : List ℕ) (counter : Option ℕ) (ahead : Bool)
+    (blob : List ℕ) (later : ListDevice) → (given : Given d bytes counter ahead blob later) →
+    act lists (CheckNext blob) later
+    ≡ (later, open_record lists later (λ r. awaited later.counters r.counter) given.sealed)
+tries_given d bytes counter ahead blob later given =
+    let keeps = given.kept.1 in
+    let opens = check_with later given.keys (blob_of given.keys given.sealed) keeps.provisioned
+    ∙ ap (λ (reply : Result ℕ unseals.Refusal).
+    let end : ListDevice × Result ℕ unseals.Refusal = (later, reply) in end)
+    (kept_opens later given.keys given.sealed (λ r. awaited later.counters r.counter)
+    given.kept) in
+    subst (λ (p : List ℕ). act lists (CheckNext p) later
+    ≡ (later, open_record lists later (λ r. awaited later.counters r.counter) given.sealed))
+    given.is opens
+
+-- what a record comes to in its chain, and in another
+pub in_chain : {X : Type 0} (d : ListDevice) (find : Sealed Chain → Option X)
+    (r : Sealed Chain) → r.chain ≡ present_chain lists d →
+    open_record lists d find r ≡ ok_or (find r) unseals.WrongCounter
+in_chain {X} d find r is =
+    ap (λ (b : Bool). let reply : Result X unseals.Refusal =
+    if b then ok_or (find r) unseals.WrongCounter else Err unseals.WrongChain in reply)
+    (subst (λ (chain : Chain). same_chain r.chain chain ≡ true) is (chain_itself r.chain))
+
+pub in_other : {X : Type 0} (d : ListDevice) (find : Sealed Chain → Option X)
+    (r : Sealed Chain) → r.chain ≢ present_chain lists d →
+    open_record lists d find r ≡ Err unseals.WrongChain
+in_other d find r other = by_test (same_chain r.chain (present_chain lists d)) refl where
   by_test : (b : Bool) → same_chain r.chain (present_chain lists d) ≡ b →
-      open_record lists d r ≡ Err unseals.WrongChain
-  by_test true is = absurd (other (sym (same_chain_is r.chain (present_chain lists d) is)))
+      open_record lists d find r ≡ Err unseals.WrongChain
+  by_test true is = absurd (other (same_chain_is r.chain (present_chain lists d) is))
   by_test false is = rw is refl
+
+-- what a record holds is answered by whether its counter stands
+ok_content : (stands : Bool) (bytes : List ℕ) →
+    ◌≡◌ {A = Result (List ℕ) unseals.Refusal}
+    (ok_or (if stands then Some bytes else None) unseals.WrongCounter)
+    (if stands then Ok bytes else Err unseals.WrongCounter)
+ok_content true bytes = refl
+ok_content false bytes = refl
+
+-- what is borne by a blob that was given
+borne_by_given : (d : ListDevice) (bytes : List ℕ) (counter : Option ℕ) (ahead : Bool)
+    (blob : List ℕ) (later : ListDevice) (borne : Option Bearing) →
+    (given : Given d bytes counter ahead blob later) →
+    bearing d.counters counter ahead ≡ Ok borne → given.sealed.counter ≡ borne
+borne_by_given d bytes counter ahead blob later borne given is =
+    let both : ◌≡◌ {A = Result (Option Bearing) seals.Refusal} (Ok given.sealed.counter) (Ok borne) =
+    sym given.borne_is ∙ is in
+    cc
+
+-- in its chain it opens where its counter stands
+pub given_opens : (d : ListDevice) (bytes : List ℕ) (counter : Option ℕ) (ahead : Bool)
+    (blob : List ℕ) (later : ListDevice) (borne : Option Bearing) →
+    Given d bytes counter ahead blob later → bearing d.counters counter ahead ≡ Ok borne →
+    present_chain lists later ≡ present_chain lists d →
+    act lists (Unseal blob) later ≡ (
+      later,
+      (if counter_stands later.counters borne then Ok bytes else Err unseals.WrongCounter),
+    )
+given_opens d bytes counter ahead blob later borne given is same =
+    let r = given.sealed in
+    let one = borne_by_given d bytes counter ahead blob later borne given is in
+    unseals_given d bytes counter ahead blob later given
+    ∙ ap (λ (reply : Result (List ℕ) unseals.Refusal).
+    let end : ListDevice × Result (List ℕ) unseals.Refusal = (later, reply) in end)
+    (in_chain later (content later.counters) r (given.chain ∙ sym same)
+    ∙ ok_content (counter_stands later.counters r.counter) r.bytes
+    ∙ ap (λ (o : Option Bearing). answered (counter_stands later.counters o) r.bytes) one
+    ∙ ap (answered (counter_stands later.counters borne)) given.bytes_are) where
+      answered : Bool → List ℕ → Result (List ℕ) unseals.Refusal
+      answered stands bytes = if stands then Ok bytes else Err unseals.WrongCounter
+
+-- and is tried by whether its counter awaits its value
+pub given_tried : (d : ListDevice) (bytes : List ℕ) (counter : Option ℕ) (ahead : Bool)
+    (blob : List ℕ) (later : ListDevice) (borne : Option Bearing) →
+    Given d bytes counter ahead blob later → bearing d.counters counter ahead ≡ Ok borne →
+    present_chain lists later ≡ present_chain lists d →
+    act lists (CheckNext blob) later
+    ≡ (later, ok_or (awaited later.counters borne) unseals.WrongCounter)
+given_tried d bytes counter ahead blob later borne given is same =
+    let r = given.sealed in
+    let one = borne_by_given d bytes counter ahead blob later borne given is in
+    tries_given d bytes counter ahead blob later given
+    ∙ ap (λ (reply : Result ℕ unseals.Refusal).
+    let end : ListDevice × Result ℕ unseals.Refusal = (later, reply) in end)
+    (in_chain later (λ r. awaited later.counters r.counter) r (given.chain ∙ sym same)
+    ∙ ap (λ (o : Option Bearing). ok_or (awaited later.counters o) unseals.WrongCounter) one)
+
+-- in another chain it is refused for that
+pub given_elsewhere : (d : ListDevice) (bytes : List ℕ) (counter : Option ℕ) (ahead : Bool)
+    (blob : List ℕ) (later : ListDevice) → Given d bytes counter ahead blob later →
+    present_chain lists later ≢ present_chain lists d →
+    (act lists (Unseal blob) later ≡ (later, Err unseals.WrongChain))
+    × (act lists (CheckNext blob) later ≡ (later, Err unseals.WrongChain))
+given_elsewhere d bytes counter ahead blob later given other =
+    let r = given.sealed in
+    let elsewhere : r.chain ≢ present_chain lists later =
+    λ same. other (sym same ∙ given.chain) in (
+      unseals_given d bytes counter ahead blob later given
+          ∙ ap (λ (reply : Result (List ℕ) unseals.Refusal).
+          let end : ListDevice × Result (List ℕ) unseals.Refusal = (later, reply) in end)
+          (in_other later (content later.counters) r elsewhere),
+      tries_given d bytes counter ahead blob later given
+          ∙ ap (λ (reply : Result ℕ unseals.Refusal).
+          let end : ListDevice × Result ℕ unseals.Refusal = (later, reply) in end)
+          (in_other later (λ r. awaited later.counters r.counter) r elsewhere),
+    )
+
+-- ---- a value that a counter has passed
+
+-- the counter that was read has this value
+read_is : {H : Type 0} (c : Counters H) (id value : ℕ) → read id c ≡ Ok value →
+    (counter : Counter H) × (counter_at c id ≡ Some counter) × (counter.value ≡ value)
+read_is {H} c id value is = by_slot (counter_at c id) refl is where
+  by_slot : (o : Option (Counter H)) → counter_at c id ≡ o → value_or_refused o ≡ Ok value →
+      (counter : Counter H) × (counter_at c id ≡ Some counter) × (counter.value ≡ value)
+  by_slot None at is = absurd (cc)
+  by_slot (Some counter) at is = (counter, at, (let one : counter.value ≡ value = cc in one))
+
+-- a value that a counter has passed does not stand, however the counters grew
+pub passed_for_good : {H : Type 0} (before after : Counters H) (b : Bearing) (value : ℕ) →
+    Grew before after → read b.id before ≡ Ok value → b.value < value →
+    counter_stands after (Some b) ≡ false
+passed_for_good before after b value grew is above =
+    let was = read_is before b.id value is in
+    let stays = grew.stay b.id was.0 was.1 in
+    let more = stays.value in
+    let one = was.2 in
+    ap (has_value b.value) stays.in_use
+    ∙ ne_eqb stays.now.value b.value (λ same. absurd (omega arith))
 
 -- ---- what opens
 
 -- bytes that are the blob of no record are no blob
 pub no_blob : (d : ListDevice) (keys : Keys) (bytes : List ℕ) → d.keys ≡ Some keys →
     ((r : Sealed Chain) → Contains d.made r → blob_of keys r ≢ bytes) →
-    act lists (Unseal bytes) d ≡ (d, Err unseals.NotBlob)
+    (act lists (Unseal bytes) d ≡ (d, Err unseals.NotBlob))
+    × (act lists (CheckNext bytes) d ≡ (d, Err unseals.NotBlob))
 no_blob d keys bytes is other =
-    unseal_with d keys bytes is
-    ∙ ap (λ (o : Option (Sealed Chain)).
-    let end : ListDevice × Result (List ℕ) unseals.Refusal = (d, open_blob lists d o) in end)
-    (not_found keys d.made bytes other)
+    let none = not_found keys d.made bytes other in (
+      unseal_with d keys bytes is
+          ∙ ap (λ (o : Option (Sealed Chain)).
+          let end : ListDevice × Result (List ℕ) unseals.Refusal =
+          (d, open_blob lists d (content d.counters) o) in end) none,
+      check_with d keys bytes is
+          ∙ ap (λ (o : Option (Sealed Chain)).
+          let end : ListDevice × Result ℕ unseals.Refusal =
+          (d, open_blob lists d (λ r. awaited d.counters r.counter) o) in end) none,
+    )
+
+-- where what is borne stands, a counter in use has its value
+stands_in : {H : Type 0} (c : Counters H) (borne : Option Bearing) →
+    counter_stands c borne ≡ true → IfSome borne (Stands c)
+stands_in c None is = tt
+stands_in {H} c (Some b) is = by_slot (counter_at c b.id) refl is where
+  by_slot : (o : Option (Counter H)) → counter_at c b.id ≡ o → has_value b.value o ≡ true →
+      Stands c b
+  by_slot None at is = absurd (let clash : false ≡ true = is in cc)
+  by_slot (Some counter) at is =
+      record { counter = counter; in_use = at; value = eqb-true counter.value b.value is }
 
 -- what a record opened to
-opened_record : (d : ListDevice) (r : Sealed Chain) (content : List ℕ) →
-    open_record lists d r ≡ Ok content →
-    (r.chain ≡ present_chain lists d) × (r.counter ≡ None) × (r.bytes ≡ content)
-opened_record d r content ok =
-    by_tests (same_chain r.chain (present_chain lists d)) refl r.counter refl ok where
+opened_record : (d : ListDevice) (r : Sealed Chain) (bytes : List ℕ) →
+    open_record lists d (content d.counters) r ≡ Ok bytes →
+    (r.chain ≡ present_chain lists d) × IfSome r.counter (Stands d.counters) × (r.bytes ≡ bytes)
+opened_record d r bytes ok =
+    by_tests (same_chain r.chain (present_chain lists d)) refl
+    (counter_stands d.counters r.counter) refl ok where
       by_tests : (a : Bool) → same_chain r.chain (present_chain lists d) ≡ a →
-          (o : Option Bearing) → r.counter ≡ o →
-          open_record lists d r ≡ Ok content →
-          (r.chain ≡ present_chain lists d) × (r.counter ≡ None) × (r.bytes ≡ content)
-      by_tests false one o two is = absurd (let wrong = rw one at is in cc)
-      by_tests true one None two is = (
+          (b : Bool) → counter_stands d.counters r.counter ≡ b →
+          (let reply : Result (List ℕ) unseals.Refusal = if a
+          then ok_or (if b then Some r.bytes else None) unseals.WrongCounter
+          else Err unseals.WrongChain in reply) ≡ Ok bytes →
+          (r.chain ≡ present_chain lists d) × IfSome r.counter (Stands d.counters)
+          × (r.bytes ≡ bytes)
+      by_tests false one b two is = absurd (cc)
+      by_tests true one false two is = absurd (cc)
+      by_tests true one true two is = (
         same_chain_is r.chain (present_chain lists d) one,
-        two,
-        (let same = rw (one, two) at is in cc),
+        stands_in d.counters r.counter two,
+        (let same : r.bytes ≡ bytes = cc in same),
       )
-      by_tests true one (Some b) two is = absurd (let wrong = rw (one, two) at is in cc)
 
 pub what_opened : (d : ListDevice) (bytes content : List ℕ) →
     (act lists (Unseal bytes) d).1 ≡ Ok content → OpensTo d bytes content
-what_opened d bytes content ok = by_keys d.keys refl ok where
+what_opened d bytes given ok = by_keys d.keys refl ok where
   by_found : (keys : Keys) → d.keys ≡ Some keys → (o : Option (Sealed Chain)) →
       IfSome o (λ r. Contains d.made r × (blob_of keys r ≡ bytes)) →
-      open_blob lists d o ≡ Ok content → OpensTo d bytes content
+      open_blob lists d (content d.counters) o ≡ Ok given → OpensTo d bytes given
   by_found keys is None one ok = absurd (cc)
   by_found keys is (Some r) one ok =
-      let opened = opened_record d r content ok in
+      let opened = opened_record d r given ok in
       record {
         keys = keys;
         sealed = r;
@@ -252,13 +454,13 @@ what_opened d bytes content ok = by_keys d.keys refl ok where
         kept = one.0;
         is = one.1;
         chain = opened.0;
-        no_counter = opened.1;
+        counter = opened.1;
         bytes_are = opened.2;
       }
 
   by_keys : (k : Option Keys) → d.keys ≡ k →
-      (with_keys unseals.Unprovisioned d (unseal lists bytes d) k).1 ≡ Ok content →
-      OpensTo d bytes content
+      (with_keys unseals.Unprovisioned d (unseal lists bytes d) k).1 ≡ Ok given →
+      OpensTo d bytes given
   by_keys None is ok = absurd (cc)
   by_keys (Some keys) is ok =
       by_found keys is (record_of keys d.made bytes) (found_in keys d.made bytes) ok

@@ -1,16 +1,8 @@
 -- What commands do to the keys, to the serial and to the count of random words, by any rules.
-use Rattle.std.proofs.Common.{◌≡◌, ◌≢◌, ℕ, ◌+◌, ◌<◌, ◌≤◌, ◌^◌, Bool, true, false, eqb, List, Option}
-use Rattle.std.proofs.Common.{Some, None, Result, Ok, Err, refl, sym, ap, ◌∙◌, arith}
-use Rattle.std.specs.Prelude.{if◌then◌else◌}
-use Rattle.std.proofs.lemmas.Bool.{ne_eqb, eq-eqb}
+use Rattle.std.proofs.Common.{◌≡◌, ◌≢◌, ℕ, ◌<◌, ◌≤◌, ◌^◌, Option, Some, None, refl, sym, ◌∙◌, arith}
 use Rattle.seal_device.specs.Keys.{Keys}
-use Rattle.seal_device.specs.Sealed.{Bearing}
 use Rattle.seal_device.specs.Rules.{Device, Rules}
-use Rattle.seal_device.specs.Drawing.{draw, last_word, random_word}
-use Rattle.seal_device.specs.Sealing.{with_keys, seal, seal_with, seal_bearing}
-use Rattle.seal_device.specs.Commands.{Command, Seal, Random, act}
-use Rattle.seal_device.specs.Refusals.Seal as seals
-use Rattle.seal_device.specs.Refusals.Random as randoms
+use Rattle.seal_device.specs.Commands.{Command, Random, act}
 use Rattle.seal_device.proofs.Sealable.{sealable}
 use Rattle.seal_device.proofs.Effects.{after_each}
 

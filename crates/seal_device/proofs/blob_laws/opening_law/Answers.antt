@@ -1,31 +1,54 @@
-use Rattle.std.proofs.Common.{◌≡◌, ℕ, List, true, refl, subst, ap, ◌∙◌}
-use Rattle.std.specs.Prelude.{Result}
+use Rattle.std.proofs.Common.{◌≡◌, ℕ, List, Bool, true, Some, subst, ap, ◌∙◌}
+use Rattle.std.specs.Prelude.{Result, Ok, Err, if◌then◌else◌}
+use Rattle.flk_base.specs.Stop.{with_fuse, fused}
 use Rattle.seal_device.specs.Commands.{Seal, act, costs}
-use Rattle.seal_device.specs.Sealing.{new_record}
 use Rattle.seal_device.specs.Lists.{ListDevice, lists, same_chain}
 use Rattle.seal_device.specs.Refusals.Unseal as unseals
-use Rattle.flk_base.specs.Stop.{with_fuse, fused}
-use Rattle.seal_device.proofs.Kept.{later_opens, in_chain, in_other, no_blob, what_opened}
+use Rattle.seal_device.proofs.Counting.{grow_over_plans}
+use Rattle.seal_device.proofs.Kept.{given_now, given_later, given_opens, given_tried}
+use Rattle.seal_device.proofs.Kept.{given_elsewhere, passed_for_good, no_blob, what_opened}
 use Rattle.seal_device.proofs.Openings.{same_chain_is, chain_itself}
 use Rattle.seal_device.proofs.blob_laws.opening_law.Goals as goal
 
 pub returns-clause-opens : goal.returns-clause-opens
-returns-clause-opens g c = λ d ledger bytes counter ahead blob plan fuse noted ok is.
-    let sealed = (act lists (Seal bytes counter ahead) d).0 in
-    let later = (fused costs (act lists) plan (with_fuse sealed fuse)).0.state in
-    later_opens d ledger bytes counter ahead blob plan fuse noted ok
-    ∙ ap (λ (reply : Result (List ℕ) unseals.Refusal).
-    let end : ListDevice × Result (List ℕ) unseals.Refusal = (later, reply) in end)
-    (in_chain later (new_record lists bytes d) refl is)
+returns-clause-opens g c = λ d ledger bytes counter ahead blob borne plan fuse noted ok is same.
+    let before = with_fuse (act lists (Seal bytes counter ahead) d).0 fuse in
+    let given = given_later d bytes counter ahead blob plan before
+    (given_now d ledger bytes counter ahead blob noted ok) in
+    given_opens d bytes counter ahead blob (fused costs (act lists) plan before).0.state borne
+    given is same
+
+pub returns-clause-tried : goal.returns-clause-tried
+returns-clause-tried g c = λ d ledger bytes counter ahead blob borne plan fuse noted ok is same.
+    let before = with_fuse (act lists (Seal bytes counter ahead) d).0 fuse in
+    let given = given_later d bytes counter ahead blob plan before
+    (given_now d ledger bytes counter ahead blob noted ok) in
+    given_tried d bytes counter ahead blob (fused costs (act lists) plan before).0.state borne
+    given is same
 
 pub returns-clause-wrong_chain : goal.returns-clause-wrong_chain
 returns-clause-wrong_chain g c = λ d ledger bytes counter ahead blob plan fuse noted ok other.
-    let sealed = (act lists (Seal bytes counter ahead) d).0 in
-    let later = (fused costs (act lists) plan (with_fuse sealed fuse)).0.state in
-    later_opens d ledger bytes counter ahead blob plan fuse noted ok
-    ∙ ap (λ (reply : Result (List ℕ) unseals.Refusal).
-    let end : ListDevice × Result (List ℕ) unseals.Refusal = (later, reply) in end)
-    (in_other later (new_record lists bytes d) other)
+    let before = with_fuse (act lists (Seal bytes counter ahead) d).0 fuse in
+    let given = given_later d bytes counter ahead blob plan before
+    (given_now d ledger bytes counter ahead blob noted ok) in
+    given_elsewhere d bytes counter ahead blob (fused costs (act lists) plan before).0.state given
+    other
+
+pub returns-clause-passed : goal.returns-clause-passed
+returns-clause-passed g c =
+    λ d ledger bytes counter ahead blob b value plan more fuse fuse' noted ok is at above same.
+    let before = with_fuse (act lists (Seal bytes counter ahead) d).0 fuse in
+    let between = (fused costs (act lists) plan before).0.state in
+    let later = (fused costs (act lists) more (with_fuse between fuse')).0.state in
+    let given = given_later d bytes counter ahead blob more (with_fuse between fuse')
+    (given_later d bytes counter ahead blob plan before
+    (given_now d ledger bytes counter ahead blob noted ok)) in
+    given_opens d bytes counter ahead blob later (Some b) given is same
+    ∙ ap (λ (stands : Bool).
+    let end : ListDevice × Result (List ℕ) unseals.Refusal =
+    (later, (if stands then Ok bytes else Err unseals.WrongCounter)) in end)
+    (passed_for_good between.counters later.counters b value
+    (grow_over_plans lists more (with_fuse between fuse')) at above)
 
 pub returns-clause-not_blob : goal.returns-clause-not_blob
 returns-clause-not_blob g c = λ d keys bytes is other. no_blob d keys bytes is other

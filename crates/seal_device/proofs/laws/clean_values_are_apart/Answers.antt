@@ -12,3 +12,9 @@ returns-clause-registers c = λ d ledger one other noted clean here there same.
     let known = All-contains (Hashed ledger.hashed) d.chains one noted.chains here in
     let too = All-contains (Hashed ledger.hashed) d.chains other noted.chains there in
     apart ledger.hashed clean one other known too same
+
+pub returns-clause-owners : goal.returns-clause-owners
+returns-clause-owners c = λ d ledger id counter other noted clean here there same.
+    let known = noted.owners id counter here in
+    let too = All-contains (Hashed ledger.hashed) d.chains other noted.chains there in
+    apart ledger.hashed clean counter.owner other known too same

@@ -1,4 +1,4 @@
-use Rattle.seal_device.proofs.Serials.{keys_stay, serial_stays}
+use Rattle.seal_device.proofs.Serials.{keys_stay, serial_stays, words_stay}
 use Rattle.seal_device.proofs.laws.commands_by_keys.Goals as goal
 
 pub returns-clause-stay : goal.returns-clause-stay
@@ -6,3 +6,6 @@ returns-clause-stay g c = λ R command d keys is. keys_stay R command d keys is
 
 pub returns-clause-serial : goal.returns-clause-serial
 returns-clause-serial g c = λ R command d low. serial_stays R command d low
+
+pub returns-clause-words : goal.returns-clause-words
+returns-clause-words g c = λ R command d other. words_stay R command d other
