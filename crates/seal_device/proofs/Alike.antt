@@ -1,7 +1,7 @@
 -- The homomorphism: on the digests of a device of lists a command does what it does there, and
 -- replies the same.
 use Rattle.std.proofs.Common.{◌≡◌, ℕ, zero, suc, List, [], ◌∷◌, map, get_or, Bool, false, Option}
-use Rattle.std.proofs.Common.{Some, None, refl, sym, ap, ◌∙◌, true, eqb, ltb, length, cond, ◌+◌}
+use Rattle.std.proofs.Common.{Some, None, refl, sym, ap, ◌∙◌, true, eqb, ltb, length, ◌+◌}
 use Rattle.std.specs.Prelude.{Result, Ok, Err, slice_get, if◌then◌else◌}
 use Rattle.std.specs.Option.{option_map}
 use Rattle.std.proofs.lemmas.Option.{slice_get-map}
@@ -14,7 +14,7 @@ use Rattle.seal_device.specs.Keys.{Keys, keys_of}
 use Rattle.seal_device.specs.Sealed.{Bearing, longest_sealed}
 use Rattle.seal_device.specs.Rules.{launch_start, launch_register}
 use Rattle.seal_device.specs.Bearings.{bearing, bearing_at}
-use Rattle.seal_device.specs.Drawing.{draw, last_word, random_word}
+use Rattle.seal_device.specs.Drawing.{last_word, random_word}
 use Rattle.seal_device.specs.Sealing.{provision, with_keys, present_chain, seal_with, seal_bearing}
 use Rattle.seal_device.specs.Sealing.{unless_last}
 use Rattle.seal_device.specs.Commands.{Command, Provision, Measure, Extend, ReadRegister, Seal, Unseal}

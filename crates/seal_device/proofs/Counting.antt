@@ -1,15 +1,15 @@
 -- What commands, and plans of them, do to the counters, by any rules.
-use Rattle.std.proofs.Common.{◌≡◌, ℕ, false, Some, Ok, refl}
+use Rattle.std.proofs.Common.{◌≡◌, ℕ, false, Some}
 use Rattle.flk_base.specs.Plan.{Plan}
 use Rattle.flk_base.specs.PlanLaws.{plans_keep}
 use Rattle.flk_base.specs.Stop.{Fused, limited, fused}
-use Rattle.tpm_state.specs.Counters.{Counter, counter_at, InRange, Grew, create, increment}
+use Rattle.tpm_state.specs.Counters.{Counter, counter_at, InRange, Grew}
 use Rattle.tpm_state.specs.CounterLaws.{create_in_range, increment_in_range, create_grew}
 use Rattle.tpm_state.specs.CounterLaws.{increment_grew, grew_same, grew_twice}
 use Rattle.seal_device.specs.Rules.{Device, Rules}
 use Rattle.seal_device.specs.Sealing.{present_chain}
 use Rattle.seal_device.specs.Commands.{Command, Reply, act, costs}
-use Rattle.seal_device.proofs.Effects.{after_each, counters_after}
+use Rattle.seal_device.proofs.Effects.{counters_after}
 use Rattle.seal_device.proofs.Owners.{create_leaves, increment_leaves}
 
 -- counters stay in their ranges

@@ -8,7 +8,7 @@ use Rattle.std.proofs.lemmas.Bool.{cases_lt, eqb-true, ne_eqb}
 use Rattle.std.proofs.lemmas.List.Elements.{All-contains, Contains-append_left, Contains-push}
 use Rattle.flk_base.specs.Plan.{Plan, run}
 use Rattle.flk_base.specs.PlanLaws.{plans_keep}
-use Rattle.flk_base.specs.Stop.{Limit, limited, Fused, with_fuse, fused}
+use Rattle.flk_base.specs.Stop.{limited, Fused, fused}
 use Rattle.tpm_state.specs.Chain.{Chain, value}
 use Rattle.tpm_state.specs.Counters.{Counter, Counters, counter_at, read, value_or_refused, Grew}
 use Rattle.seal_device.specs.Keys.{Keys}
@@ -24,7 +24,6 @@ use Rattle.seal_device.specs.Lists.{ListDevice, lists, same_chain, blob_of, reco
 use Rattle.seal_device.specs.Agreement.{Noted, SerialsRise}
 use Rattle.seal_device.specs.Refusals.Seal as seals
 use Rattle.seal_device.specs.Refusals.Unseal as unseals
-use Rattle.seal_device.proofs.Counting.{grow_over_plans}
 use Rattle.seal_device.proofs.Effects.{after_each}
 use Rattle.seal_device.proofs.Known.{stays_noted}
 use Rattle.seal_device.proofs.Openings.{found, not_found, found_in, parsed-blob_of, same_chain_is}

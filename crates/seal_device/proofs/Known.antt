@@ -1,8 +1,8 @@
 -- The ledger has what a device of lists knows, after each command.
 use Rattle.std.proofs.Common.{◌≡◌, ◌-◌, ℕ, zero, suc, ◌+◌, ◌<◌, ◌≤◌, List, [], ◌∷◌, ◌++◌, Bool}
-use Rattle.std.proofs.Common.{true, false, eqb, ltb, Option, Some, None, refl, sym, ap, ◌∙◌, subst}
+use Rattle.std.proofs.Common.{true, false, eqb, Option, Some, None, refl, sym, ap, ◌∙◌, subst}
 use Rattle.std.proofs.Common.{inl, inr, length, map, get_or, All, Contains, Result, Ok, Err, arith}
-use Rattle.std.specs.Prelude.{slice_get, IfSome, replicate, if◌then◌else◌}
+use Rattle.std.specs.Prelude.{slice_get, IfSome, if◌then◌else◌}
 use Rattle.std.proofs.lemmas.Option.{slice_get_within, get_or_from_slice_get}
 use Rattle.std.proofs.lemmas.List.Elements.{All-set, All-map, All-append, All-push, All-tail}
 use Rattle.std.proofs.lemmas.List.Elements.{All-weaker, All-contains_itself}
@@ -33,7 +33,7 @@ use Rattle.seal_device.specs.Agreement.{SerialsRise}
 use Rattle.seal_device.specs.Refusals.Seal as seals
 use Rattle.seal_device.specs.Refusals.Unseal as unseals
 use Rattle.seal_device.specs.Refusals.Random as randoms
-use Rattle.seal_device.proofs.Sealable.{Sealable, sealable, BorneBy, borne_by, borne_in_range}
+use Rattle.seal_device.proofs.Sealable.{sealable, borne_by, borne_in_range}
 use Rattle.seal_device.proofs.Owners.{none_in_use, create_owners, increment_owners}
 
 -- the strings of a chain are among those hashed

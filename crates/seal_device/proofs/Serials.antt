@@ -1,5 +1,5 @@
 -- What commands do to the keys, to the serial and to the count of random words, by any rules.
-use Rattle.std.proofs.Common.{◌≡◌, ◌≢◌, ℕ, ◌<◌, ◌≤◌, ◌^◌, Option, Some, None, refl, sym, ◌∙◌, arith}
+use Rattle.std.proofs.Common.{◌≡◌, ◌≢◌, ℕ, ◌<◌, ◌≤◌, ◌^◌, Some, None, refl, sym, ◌∙◌, arith}
 use Rattle.seal_device.specs.Keys.{Keys}
 use Rattle.seal_device.specs.Rules.{Device, Rules}
 use Rattle.seal_device.specs.Commands.{Command, Random, act}
