@@ -4,7 +4,7 @@ pub mod Sealable
 pub mod Owners
 pub mod Known
 pub mod Effects
-pub mod Counting
+pub mod Growth
 pub mod Plans
 pub mod Values
 pub mod Tags

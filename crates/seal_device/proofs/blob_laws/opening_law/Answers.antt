@@ -4,7 +4,7 @@ use Rattle.flk_base.specs.Stop.{with_fuse, fused}
 use Rattle.seal_device.specs.Commands.{Seal, act, costs}
 use Rattle.seal_device.specs.Lists.{ListDevice, lists, same_chain}
 use Rattle.seal_device.specs.Refusals.Unseal as unseals
-use Rattle.seal_device.proofs.Counting.{grow_over_plans}
+use Rattle.seal_device.proofs.Growth.{grow_over_plans}
 use Rattle.seal_device.proofs.Kept.{given_now, given_later, given_opens, given_tried}
 use Rattle.seal_device.proofs.Kept.{given_elsewhere, passed_for_good, no_blob, what_opened}
 use Rattle.seal_device.proofs.Openings.{same_chain_is, chain_itself}

@@ -1,7 +1,7 @@
 use Rattle.tpm_state.specs.CounterLaws.{create_done, increment_done}
 use Rattle.seal_device.specs.Sealing.{present_chain}
-use Rattle.seal_device.proofs.Counting.{range_stays, counters_grow, owner_alone, range_over_plans}
-use Rattle.seal_device.proofs.Counting.{grow_over_plans}
+use Rattle.seal_device.proofs.Growth.{range_stays, counters_grow, owner_alone, range_over_plans}
+use Rattle.seal_device.proofs.Growth.{grow_over_plans}
 use Rattle.seal_device.proofs.laws.commands_by_counters.Goals as goal
 
 pub returns-clause-in_range : goal.returns-clause-in_range
