@@ -11,6 +11,7 @@ pub mod Tags
 pub mod Writes
 pub mod Reading
 pub mod Making
+pub mod Counting
 pub mod BlobFields
 pub mod BlobLaws
 pub mod Openings

@@ -1,17 +1,22 @@
 -- What stands in bytes that have the form of a blob.
-use Rattle.std.proofs.Common.{◌≡◌, ◌≢◌, ℕ, ◌+◌, ◌≤◌, true, false, eqb, List, length, take, drop}
-use Rattle.std.proofs.Common.{refl, ◌∙◌, arith}
-use Rattle.std.specs.Prelude.{bytes_eq, slice_range, Result, Ok, Err}
-use Rattle.std.proofs.lemmas.Bool.{and_parts, leb-true, eqb-true, eq-eqb, ne_eqb}
+use Rattle.std.proofs.Common.{◌≡◌, ℕ, ◌+◌, ◌≤◌, true, false, List, length, take, drop}
+use Rattle.std.proofs.Common.{refl, sym, ap, ◌∙◌, arith}
+use Rattle.std.specs.Prelude.{bytes_eq, slice_range, Bool, Option, Some, None, Result, Ok, Err}
+use Rattle.std.specs.Prelude.{if◌then◌else◌}
+use Rattle.std.specs.Option.{ok_or}
+use Rattle.std.proofs.lemmas.Bool.{and_parts, leb-true, eqb-true}
 use Rattle.std.proofs.lemmas.Slice.Eq.{bytes_eq-Decides}
 use Rattle.std.proofs.lemmas.List.Edits.{length-between}
 use Rattle.flk_hmac.specs.Hmac.{mac}
 use Rattle.flk_hmac.specs.Mask.{masked_bytes}
 use Rattle.flk_hmac.proofs.Masks.{length-masked_bytes}
 use Rattle.flk_base.specs.Stop.{over}
+use Rattle.tpm_state.specs.Counters.{Counters}
 use Rattle.seal_device.specs.Keys.{Keys}
 use Rattle.seal_device.specs.Blobs.{is_form, mark, mark_field, serial_field, length_field}
-use Rattle.seal_device.specs.Blobs.{id_field, chain_field, masked_field, tag_ok, sealed_of, parsed}
+use Rattle.seal_device.specs.Sealed.{Bearing, Sealed}
+use Rattle.seal_device.specs.Blobs.{bearing_of, chain_field, masked_field, tag_ok, sealed_of, parsed}
+use Rattle.seal_device.specs.Bearings.{content, awaited, counter_stands}
 use Rattle.seal_device.specs.Sealing.{present_chain, open_blob}
 use Rattle.seal_device.specs.Digests.{DigestDevice, digests}
 use Rattle.seal_device.specs.Refusals.Unseal as unseals
@@ -70,35 +75,73 @@ unfolding tag_ok
 tag_ok-formed keys p front shown key n is one two three four =
     rw (three, four, one, two, is) refl
 
--- ---- what a record opens to, by digests
+-- ---- what is found in a blob, by digests
+
+-- bytes without the tag
+pub not_blob : {X : Type 0} (d : DigestDevice) (keys : Keys) (p : List ℕ)
+    (found : Sealed (List ℕ) → Option X) → tag_ok keys p ≡ false →
+    open_blob digests d found (parsed keys p) ≡ Err unseals.NotBlob
+not_blob d keys p found differs = rw differs refl
 
 -- bytes with the tag, whose value of register 17 differs
-pub wrong_chain : (d : DigestDevice) (keys : Keys) (p present : List ℕ) →
-    tag_ok keys p ≡ true → present_chain digests d ≡ present →
-    bytes_eq (chain_field p) present ≡ false →
-    open_blob digests d (parsed keys p) ≡ Err unseals.WrongChain
+pub wrong_chain : {X : Type 0} (d : DigestDevice) (keys : Keys) (p present : List ℕ)
+    (found : Sealed (List ℕ) → Option X) → tag_ok keys p ≡ true →
+    present ≡ present_chain digests d → bytes_eq (chain_field p) present ≡ false →
+    open_blob digests d found (parsed keys p) ≡ Err unseals.WrongChain
 unfolding sealed_of
-wrong_chain d keys p present ok at differs = rw (ok, at, differs) refl
+wrong_chain d keys p present found ok at differs = rw (ok, sym at, differs) refl
 
--- whose value is the same, and which bear a counter
-pub wrong_counter : (d : DigestDevice) (keys : Keys) (p present : List ℕ) →
-    tag_ok keys p ≡ true → present_chain digests d ≡ present →
-    bytes_eq (chain_field p) present ≡ true → id_field p ≢ 255 →
-    open_blob digests d (parsed keys p) ≡ Err unseals.WrongCounter
+-- and whose value is the same
+pub right_chain : {X : Type 0} (d : DigestDevice) (keys : Keys) (p present : List ℕ)
+    (found : Sealed (List ℕ) → Option X) → tag_ok keys p ≡ true →
+    present ≡ present_chain digests d → bytes_eq (chain_field p) present ≡ true →
+    open_blob digests d found (parsed keys p)
+    ≡ ok_or (found (sealed_of keys p)) unseals.WrongCounter
 unfolding sealed_of
-wrong_counter d keys p present ok at same bears =
-    let other : eqb (id_field p) 255 ≡ false = ne_eqb _ _ bears in
-    rw (ok, at, same, other) refl
+right_chain d keys p present found ok at same = rw (ok, sym at, same) refl
 
--- and which bear none
-pub opens : (d : DigestDevice) (keys : Keys) (p present : List ℕ) →
-    tag_ok keys p ≡ true → present_chain digests d ≡ present →
-    bytes_eq (chain_field p) present ≡ true → id_field p ≡ 255 →
-    open_blob digests d (parsed keys p) ≡ Ok (sealed_of keys p).bytes
+-- the counter that it bears
+pub counter-sealed_of : (keys : Keys) (p : List ℕ) → (sealed_of keys p).counter ≡ bearing_of p
 unfolding sealed_of
-opens d keys p present ok at same none =
-    let two : eqb (id_field p) 255 ≡ true = eq-eqb _ _ none in
-    rw (ok, at, same, two) refl
+counter-sealed_of keys p = refl
+
+-- so what it opens to, as the code finds the counter's value
+pub opens : (d : DigestDevice) (keys : Keys) (p present : List ℕ) (c : Counters (List ℕ))
+    (borne : Option Bearing) (b : Bool) → tag_ok keys p ≡ true →
+    present ≡ present_chain digests d → bytes_eq (chain_field p) present ≡ true →
+    c ≡ d.counters → borne ≡ bearing_of p → b ≡ counter_stands c borne →
+    open_blob digests d (content d.counters) (parsed keys p)
+    ≡ (if b then Ok (sealed_of keys p).bytes else Err unseals.WrongCounter)
+opens d keys p present c borne b ok at same one two three =
+    right_chain d keys p present (content d.counters) ok at same
+    ∙ ap (λ (o : Option Bearing). ok_or
+    (if counter_stands d.counters o then Some (sealed_of keys p).bytes else None)
+    unseals.WrongCounter) (counter-sealed_of keys p ∙ sym two)
+    ∙ ap (λ (x : Counters (List ℕ)). ok_or
+    (if counter_stands x borne then Some (sealed_of keys p).bytes else None)
+    unseals.WrongCounter) (sym one)
+    ∙ ap (λ (x : Bool). ok_or
+    (if x then Some (sealed_of keys p).bytes else None) unseals.WrongCounter) (sym three)
+    ∙ by_case b where
+      by_case : (x : Bool) →
+          ok_or (if x then Some (sealed_of keys p).bytes else None) unseals.WrongCounter
+          ≡ (if x then Ok (sealed_of keys p).bytes else Err unseals.WrongCounter)
+      by_case true = refl
+      by_case false = refl
+
+-- and what it comes to when it is tried for the counter's next value
+pub tried : (d : DigestDevice) (keys : Keys) (p present : List ℕ) (c : Counters (List ℕ))
+    (borne : Option Bearing) (o : Option ℕ) → tag_ok keys p ≡ true →
+    present ≡ present_chain digests d → bytes_eq (chain_field p) present ≡ true →
+    c ≡ d.counters → borne ≡ bearing_of p → o ≡ awaited c borne →
+    open_blob digests d (λ r. awaited d.counters r.counter) (parsed keys p)
+    ≡ ok_or o unseals.WrongCounter
+tried d keys p present c borne o ok at same one two three =
+    right_chain d keys p present (λ r. awaited d.counters r.counter) ok at same
+    ∙ ap (λ (b : Option Bearing). ok_or (awaited d.counters b) unseals.WrongCounter)
+    (counter-sealed_of keys p ∙ sym two)
+    ∙ ap (λ (x : Counters (List ℕ)). ok_or (awaited x borne) unseals.WrongCounter) (sym one)
+    ∙ ap (λ (x : Option ℕ). ok_or x unseals.WrongCounter) (sym three)
 
 -- bytes that stand in a buffer, as they are reported
 pub bytes_reported : {E : Type 0} (bytes buffer out : List ℕ) (n : ℕ) →

@@ -232,9 +232,10 @@ impl Device {
             return Err(CounterFault::PowerLost);
         }
         let present = self.present_value();
-        match self.counters.create(&present) {
-            Ok(id) => Ok(id),
-            Err(fault) => Err(counter_fault(fault)),
+        let created = self.counters.create(&present);
+        match created {
+            Ok(id) => return Ok(id),
+            Err(fault) => return Err(counter_fault(fault)),
         }
     }
 
@@ -264,9 +265,10 @@ impl Device {
             return Err(CounterFault::PowerLost);
         }
         let present = self.present_value();
-        match self.counters.increment(id, &present) {
-            Ok(value) => Ok(value),
-            Err(fault) => Err(counter_fault(fault)),
+        let incremented = self.counters.increment(id, &present);
+        match incremented {
+            Ok(value) => return Ok(value),
+            Err(fault) => return Err(counter_fault(fault)),
         }
     }
 
@@ -293,7 +295,8 @@ impl Device {
 
     /// Register 17's value.
     fn present_value(&self) -> [u8; 20]
-        ensures { result ≡ present_chain digests self.now }
+        ensures value { result ≡ present_chain digests self.now }
+        ensures size { length result ≡ 20 }
     {
         let shown = self.bank.read(17);
         match shown {

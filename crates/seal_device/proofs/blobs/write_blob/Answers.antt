@@ -1,4 +1,4 @@
-use Rattle.std.proofs.Common.{ℕ, List, None, refl, ap, ◌∙◌, arith}
+use Rattle.std.proofs.Common.{ℕ, List, refl, ap, ◌∙◌, arith}
 use Rattle.seal_device.specs.Keys.{Keys}
 use Rattle.seal_device.specs.Sealed.{Sealed}
 use Rattle.seal_device.proofs.Writes.{blob_written}
@@ -10,7 +10,7 @@ returns-clause-written c =
     record {
       serial = c.args.serial;
       chain = c.args.chain.now;
-      counter = None;
+      counter = c.args.counter;
       bytes = c.args.bytes.now;
     } in
     blob_written c.args.keys.now r _ _ _ c.args.out.now _ _ _
