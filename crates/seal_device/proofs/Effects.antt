@@ -29,8 +29,9 @@ pub record AfterEach {H M : Type 0} (R : Rules H M) (c : Command) (d : Device H 
     pub sealed : (bytes : List ℕ) (counter : Option ℕ) (ahead : Bool) (borne : Option Bearing) →
         seal_bearing d.serial d.counters bytes counter ahead ≡ Ok borne →
         P (with_record R (new_record R bytes borne d) d)
-    pub created : P (record d { counters = (create (present_chain R d) d.counters).0 })
-    pub incremented : (id : ℕ) →
+    pub created : c ≡ NewCounter →
+        P (record d { counters = (create (present_chain R d) d.counters).0 })
+    pub incremented : (id : ℕ) → c ≡ Increment id →
         P (record d { counters = (increment R.same id (present_chain R d) d.counters).0 })
     pub drawn : c ≡ Random → d.drawn ≢ last_word → P (record d { drawn = d.drawn + 1 })
     pub powered : P (record d { chains = first_chains R })
@@ -69,9 +70,9 @@ after_each R (Unseal bytes) d P each =
 after_each R (CheckNext bytes) d P each =
     with_keys_ends P unseals.Unprovisioned d (check_next R bytes d) d.keys each.nothing
     (λ keys. each.nothing)
-after_each R NewCounter d P each = each.created
+after_each R NewCounter d P each = each.created refl
 after_each R (ReadCounter id) d P each = each.nothing
-after_each R (Increment id) d P each = each.incremented id
+after_each R (Increment id) d P each = each.incremented id refl
 after_each {H} {M} R Random d P each =
     with_keys_ends P randoms.Unprovisioned d (draw d) d.keys each.nothing
     (λ keys. by_last keys (eqb d.drawn last_word) refl) where
@@ -86,8 +87,8 @@ after_each R PowerOn d P each = each.powered
 -- what is said of the counters alone needs only what creations and increments do
 pub counters_after : {H M : Type 0} (R : Rules H M) (c : Command) (d : Device H M)
     (P : Counters H → Type 0) → P d.counters →
-    P (create (present_chain R d) d.counters).0 →
-    ((id : ℕ) → P (increment R.same id (present_chain R d) d.counters).0) →
+    (c ≡ NewCounter → P (create (present_chain R d) d.counters).0) →
+    ((id : ℕ) → c ≡ Increment id → P (increment R.same id (present_chain R d) d.counters).0) →
     P (act R c d).0.counters
 counters_after {H} {M} R c d P nothing created incremented =
     after_each R c d (λ (e : Device H M). P e.counters) (record {

@@ -43,8 +43,8 @@ record_stays c d r there =
       extended = λ n text chain at. there;
       sealed = λ bytes counter ahead borne ok.
           Contains-append_left d.made (new_record lists bytes borne d ∷ []) r there;
-      created = there;
-      incremented = λ id. there;
+      created = λ one. there;
+      incremented = λ id one. there;
       drawn = λ one less. there;
       powered = there;
     })

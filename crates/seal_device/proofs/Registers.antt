@@ -29,8 +29,8 @@ count_kept {H} {M} R c d count =
       extended = λ r text chain there.
           length-set d.chains r (R.extended chain text) ∙ count;
       sealed = λ bytes counter ahead borne ok. count;
-      created = count;
-      incremented = λ id. count;
+      created = λ one. count;
+      incremented = λ id one. count;
       drawn = λ one less. count;
       powered = refl;
     })

@@ -16,8 +16,8 @@ keys_stay {H} {M} R c d keys is =
       measured = λ image. is;
       extended = λ r text chain there. is;
       sealed = λ bytes counter ahead borne ok. is;
-      created = is;
-      incremented = λ id. is;
+      created = λ one. is;
+      incremented = λ id one. is;
       drawn = λ one less. is;
       powered = is;
     })
@@ -40,8 +40,8 @@ serial_stays {H} {M} R c d low =
           let told = sealable d.serial d.counters bytes counter ahead borne ok in
           let free = told.free in
           (omega arith, omega arith);
-      created = same;
-      incremented = λ id. same;
+      created = λ one. same;
+      incremented = λ id one. same;
       drawn = λ one less. same;
       powered = same;
     })
@@ -56,8 +56,8 @@ words_stay {H} {M} R c d other =
       measured = λ image. refl;
       extended = λ r text chain there. refl;
       sealed = λ bytes counter ahead borne ok. refl;
-      created = refl;
-      incremented = λ id. refl;
+      created = λ one. refl;
+      incremented = λ id one. refl;
       drawn = λ one less. absurd (other one);
       powered = refl;
     })

@@ -33,12 +33,12 @@ pub fn blob_law()
 {}
 
 /// What a blob opens to on a device of lists. Where sealing bytes gave a blob, then after whatever
-/// else is done, and wherever the power is lost in it: in any chain of register 17 but that in which
-/// it stood then, the blob is refused for that. In that chain it opens to these bytes where the
-/// counter that it bears, if it bears one, has the value that it bears; where it has another, it is
-/// refused for that. It is tried for the next value of its counter in the same way. Once the counter
-/// has passed the value, the blob never opens again. Bytes that are no blob of a record that the
-/// device keeps are no blob to it. And what opens is such a record.
+/// else is done, and wherever the power is lost in it: in any chain of register 17 but that in
+/// which it stood then, the blob is refused for that. In that chain it opens to these bytes where
+/// the counter that it bears, if it bears one, has the value that it bears; where it has another,
+/// it is refused for that. It is tried for the next value of its counter in the same way. Once the
+/// counter has passed the value, the blob never opens again. Bytes that are no blob of a record
+/// that the device keeps are no blob to it. And what opens is such a record.
 pub fn opening_law<X>()
     ensures opens { (d : ListDevice) (ledger : Ledger) (bytes : List ℕ) (counter : Option ℕ)
         (ahead : Bool) (blob : List ℕ) (borne : Option Bearing) (plan : Plan Command Reply X)

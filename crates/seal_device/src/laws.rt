@@ -1,12 +1,12 @@
 // Laws of the commands on a device of lists and on one of digests (specs/). Each function does
 // nothing: its clauses are laws, which are proved because they stand here.
-ghost use Rattle.std.specs.Prelude.{◌≡◌, ◌≢◌, ◌<◌, ◌≤◌, ◌+◌, ◌^◌, Bool, true, false, List, ℕ, length};
-ghost use Rattle.std.specs.Prelude.{Option, Some, None, Ok, Err, slice_get, All, Contains};
+ghost use Rattle.std.specs.Prelude.{◌≡◌, ◌≢◌, ◌<◌, ◌≤◌, ◌+◌, ◌^◌, Bool, true, false, List, ℕ};
+ghost use Rattle.std.specs.Prelude.{length, Option, Some, None, Ok, Err, slice_get, All, Contains};
 ghost use Rattle.flk_base.specs.Plan.{Plan, ask, EndAlike};
 ghost use Rattle.flk_base.specs.Stop.{Limit, Fused, with_fuse, limited, fused};
 ghost use Rattle.tpm_state.specs.Chain.{Chain, value, power_start, register_count};
-ghost use Rattle.tpm_state.specs.Counters.{Counter, no_counters, counter_at, InRange, Grew, Created};
-ghost use Rattle.tpm_state.specs.Counters.{Incremented};
+ghost use Rattle.tpm_state.specs.Counters.{Counter, no_counters, counter_at, InRange, Grew};
+ghost use Rattle.tpm_state.specs.Counters.{Created, Incremented};
 ghost use Rattle.seal_device.specs.Keys.{Keys, keys_of};
 ghost use Rattle.seal_device.specs.Rules.{Device, Rules};
 ghost use Rattle.seal_device.specs.Refusals.Seed as seeds;
@@ -150,11 +150,11 @@ pub fn commands_by_registers<H, M>()
         length d.chains ≡ register_count → length (act R c d).0.chains ≡ register_count }
 {}
 
-/// What commands do to the keys, to the serial and to the count of random words, by the rules of any
-/// platform. The keys of a seed come once, and then stay. Without them nothing is sealed, unsealed,
-/// tried or drawn. What is sealed gets the serial, and the next one is one more: it never falls, and
-/// stays below 2^64; what is refused changes nothing. So it is with the number of the next random
-/// word, and no other command draws one.
+/// What commands do to the keys, to the serial and to the count of random words, by the rules of
+/// any platform. The keys of a seed come once, and then stay. Without them nothing is sealed,
+/// unsealed, tried or drawn. What is sealed gets the serial, and the next one is one more: it never
+/// falls, and stays below 2^64; what is refused changes nothing. So it is with the number of the
+/// next random word, and no other command draws one.
 pub fn commands_by_keys<H, M>()
     ensures provision { (R : Rules H M) (seed : List ℕ) (d : Device H M) → d.keys ≡ None →
         act R (Command.Provision seed) d ≡ (record d { keys = Some (keys_of seed) }, Ok tt) }
@@ -192,8 +192,8 @@ pub fn commands_by_keys<H, M>()
 /// What commands do to the counters, by the rules of any platform. They stay in their ranges; each
 /// that is in use stays so, with its owner, and its value never falls: so it is over each command
 /// and over each plan, wherever its fuse stops it. A counter stays as it is under each command that
-/// is given while register 17 stands in another chain than its owner. A new one is owned by register
-/// 17's chain. Power-on changes none.
+/// is given while register 17 stands in another chain than its owner. A new one is owned by
+/// register 17's chain. No command but a creation and an increment changes any.
 pub fn commands_by_counters<H, M, X>()
     ensures in_range { (R : Rules H M) (c : Command) (d : Device H M) → InRange d.counters →
         InRange (act R c d).0.counters }
@@ -217,11 +217,13 @@ pub fn commands_by_counters<H, M, X>()
         (act R (Command.Increment id) d).1 ≡ Ok value →
         Incremented R.same id (present_chain R d) d.counters value
         (act R (Command.Increment id) d).0.counters }
+    ensures others { (R : Rules H M) (c : Command) (d : Device H M) → c ≢ Command.NewCounter →
+        ((id : ℕ) → c ≢ Command.Increment id) → (act R c d).0.counters ≡ d.counters }
 {}
 
-/// A command that costs nothing, as power-on and the taking of a seed, takes nothing from the fuse and is done at any. Each
-/// other command takes a step; where the fuse has none left the power is lost before it, and
-/// nothing changes.
+/// A command that costs nothing, as power-on and the taking of a seed, takes nothing from the fuse
+/// and is done at any. Each other command takes a step; where the fuse has none left the power is
+/// lost before it, and nothing changes.
 pub fn commands_and_the_fuse()
     ensures power_on { costs Command.PowerOn ≡ false }
     ensures provision { (seed : List ℕ) → costs (Command.Provision seed) ≡ false }

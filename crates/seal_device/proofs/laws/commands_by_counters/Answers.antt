@@ -1,7 +1,7 @@
 use Rattle.tpm_state.specs.CounterLaws.{create_done, increment_done}
 use Rattle.seal_device.specs.Sealing.{present_chain}
 use Rattle.seal_device.proofs.Growth.{range_stays, counters_grow, owner_alone, range_over_plans}
-use Rattle.seal_device.proofs.Growth.{grow_over_plans}
+use Rattle.seal_device.proofs.Growth.{grow_over_plans, counters_stay}
 use Rattle.seal_device.proofs.laws.commands_by_counters.Goals as goal
 
 pub returns-clause-in_range : goal.returns-clause-in_range
@@ -27,3 +27,7 @@ returns-clause-new_counter g c = λ R d id given.
 pub returns-clause-increment : goal.returns-clause-increment
 returns-clause-increment g c = λ R d id value given.
     increment_done R.same id (present_chain R d) d.counters value given
+
+pub returns-clause-others : goal.returns-clause-others
+returns-clause-others g c = λ R command d no_creation no_increment.
+    counters_stay R command d no_creation no_increment
