@@ -4,7 +4,7 @@ ghost use Rattle.flk_base.specs.Plan.{ask};
 ghost use Rattle.flk_base.specs.Stop.{Ends, reported, reported_into};
 ghost use Rattle.seal_device.specs.Commands.{Command, act};
 ghost use Rattle.seal_device.specs.Digests.{digests, on_device};
-ghost use Rattle.seal_device.specs.Faults.{provision_answer, register_fault, unseal_fault};
+ghost use Rattle.seal_device.specs.Faults.{provision_answer, register_fault, unseal_fault, read_fault, random_fault};
 ghost use Rattle.machine_memory.specs.Areas.{IsArea};
 ghost use Rattle.late_launch.specs.Boards.{blank_board, zero_registers, fused_device, fallen};
 
@@ -14,7 +14,9 @@ use flk_base::{Fuse, NoMemory};
 use i386_profile::Cpu;
 use machine_memory::Memory;
 use region_pool::Ticket;
-use seal_device::{Device, LONGEST_SEALED, Provisioned, RegisterFault, UnsealFault};
+use seal_device::{
+    CounterFault, Device, LONGEST_SEALED, Provisioned, RandomFault, RegisterFault, UnsealFault,
+};
 use std::alloc::Global;
 use std::marker::Model;
 
@@ -137,7 +139,7 @@ impl Board {
     /// `PowerLost` where the fuse has no step left, and nothing changes; else, with the step taken and `out` as it
     /// was, `Unprovisioned` where the device has no seed, `NotBlob` where the bytes are no blob of this device,
     /// `WrongChain` where register 17 has another value than at the sealing, `WrongCounter` where the blob bears a
-    /// counter that is not in use.
+    /// counter that is not in use or has another value.
     pub fn unseal(
         &mut self,
         blob: &[u8],
@@ -151,6 +153,38 @@ impl Board {
         ensures size { IfOk result (λ size. size ≤ LONGEST_SEALED) }
     {
         self.device.unseal(blob, out, &mut self.fuse)
+    }
+
+    /// The value of counter `id`, in one step of the fuse.
+    ///
+    /// # Errors
+    ///
+    /// `PowerLost` where the fuse has no step left, and nothing changes; else, with the step taken, `NoCounter` where
+    /// the counter is not in use.
+    pub fn read_counter(&mut self, id: u8) -> Result<u32, CounterFault>
+        ensures ends { Ends (reported read_fault CounterFault.PowerLost)
+            (on_device (ask (Command.ReadCounter id)) (fused_device self.old))
+            (fused_device self.new) result }
+        ensures memory { self.new.memory ≡ self.old.memory }
+        ensures registers { self.new.registers ≡ self.old.registers }
+    {
+        self.device.read_counter(id, &mut self.fuse)
+    }
+
+    /// The next random word, in one step of the fuse.
+    ///
+    /// # Errors
+    ///
+    /// `PowerLost` where the fuse has no step left, and nothing changes; else, with the step taken, `Unprovisioned`
+    /// where the device has no seed, `RandomEnd` where the next word's number is 2^64 - 1.
+    pub fn random(&mut self) -> Result<[u8; 20], RandomFault>
+        ensures ends { Ends (reported random_fault RandomFault.PowerLost)
+            (on_device (ask Command.Random) (fused_device self.old))
+            (fused_device self.new) result }
+        ensures memory { self.new.memory ≡ self.old.memory }
+        ensures registers { self.new.registers ≡ self.old.registers }
+    {
+        self.device.random(&mut self.fuse)
     }
 
     /// The host stands still, and its registers are saved; `area` is where a session is to run.

@@ -12,6 +12,7 @@ ghost use Rattle.seal_device.specs.Blobs.{blob_size};
 ghost use Rattle.seal_device.specs.Commands.{Command};
 ghost use Rattle.seal_device.specs.Digests.{on_device};
 ghost use Rattle.seal_device.specs.Faults.{power_lost, register_fault, seal_fault, unseal_fault};
+ghost use Rattle.seal_device.specs.Faults.{create_fault, read_fault, increment_fault, random_fault};
 ghost use Rattle.late_launch.specs.Regions.{around, region_bytes, around_after_turn, input_page, inputs_offset, page, with_outputs, IsGuarded};
 ghost use Rattle.late_launch.specs.Ends.{end_byte, IsEndOf, closing, extend_each};
 ghost use Rattle.late_launch.specs.States.{has_image, image_in, session_device, lost};
@@ -27,7 +28,10 @@ use flk_base::{Fuse, PowerLost};
 use i386_profile::Cpu;
 use machine_memory::{Dma, Memory, NotTaken, frame_law};
 use region_pool::Ticket;
-use seal_device::{BLOB_ROOM, Device, LONGEST_SEALED, RegisterFault, SealFault, UnsealFault};
+use seal_device::{
+    BLOB_ROOM, CounterFault, Device, LONGEST_SEALED, RandomFault, RegisterFault, SealFault,
+    UnsealFault,
+};
 use slb_image::ImageView;
 use std::marker::Model;
 
@@ -237,7 +241,8 @@ impl Launched {
     ///
     /// `PowerLost` where the fuse has no step left, and nothing changes; else, with the step taken and `out` as it
     /// was, `Unprovisioned` where the device has no seed, `TooLong` past 2,048 bytes, `NoCounter` where a counter is
-    /// asked for that is not in use, `SerialEnd` where the next serial is 2^64 - 1.
+    /// asked for that is not in use, `CounterEnd` where one is asked for ahead that stands at 2^32 - 1, `SerialEnd`
+    /// where the next serial is 2^64 - 1.
     pub fn seal(
         &mut self,
         bytes: &[u8],
@@ -272,6 +277,81 @@ impl Launched {
         ensures size { IfOk result (λ size. size ≤ LONGEST_SEALED) }
     {
         self.device.unseal(blob, out, &mut self.fuse)
+    }
+
+    /// Tries a blob for the next value of the counter that it bears, in one step of the fuse, and gives the counter's
+    /// number.
+    ///
+    /// # Errors
+    ///
+    /// Those of `Board::unseal`, where `WrongCounter` comes where the blob bears no counter, or one that is not in use
+    /// or of which its value is not the next.
+    pub fn check_next(&mut self, blob: &[u8]) -> Result<u8, UnsealFault>
+        ensures ends { Ends (reported unseal_fault UnsealFault.PowerLost)
+            (on_device (ask (Command.CheckNext blob.now)) (session_device self.old))
+            (session_device self.new) result }
+        ensures others { self.new ≡ record self.old { device = self.new.device; fuse = self.new.fuse } }
+    {
+        self.device.check_next(blob, &mut self.fuse)
+    }
+
+    /// Creates a counter that register 17's present value owns, in one step of the fuse, and gives its number.
+    ///
+    /// # Errors
+    ///
+    /// `PowerLost` where the fuse has no step left, and nothing changes; else, with the step taken, `Full` where all
+    /// counters are in use, `End` where one has had the value 2^32 - 1.
+    pub fn new_counter(&mut self) -> Result<u8, CounterFault>
+        ensures ends { Ends (reported create_fault CounterFault.PowerLost)
+            (on_device (ask Command.NewCounter) (session_device self.old))
+            (session_device self.new) result }
+        ensures others { self.new ≡ record self.old { device = self.new.device; fuse = self.new.fuse } }
+    {
+        self.device.new_counter(&mut self.fuse)
+    }
+
+    /// The value of counter `id`, in one step of the fuse.
+    ///
+    /// # Errors
+    ///
+    /// Those of `Board::read_counter`.
+    pub fn read_counter(&mut self, id: u8) -> Result<u32, CounterFault>
+        ensures ends { Ends (reported read_fault CounterFault.PowerLost)
+            (on_device (ask (Command.ReadCounter id)) (session_device self.old))
+            (session_device self.new) result }
+        ensures others { self.new ≡ record self.old { device = self.new.device; fuse = self.new.fuse } }
+    {
+        self.device.read_counter(id, &mut self.fuse)
+    }
+
+    /// Increments counter `id`, in one step of the fuse, and gives its new value.
+    ///
+    /// # Errors
+    ///
+    /// `PowerLost` where the fuse has no step left, and nothing changes; else, with the step taken, `NoCounter` where
+    /// the counter is not in use, `NotOwner` where register 17 had another value when it was created, `End` where it
+    /// stands at 2^32 - 1.
+    pub fn increment(&mut self, id: u8) -> Result<u32, CounterFault>
+        ensures ends { Ends (reported increment_fault CounterFault.PowerLost)
+            (on_device (ask (Command.Increment id)) (session_device self.old))
+            (session_device self.new) result }
+        ensures others { self.new ≡ record self.old { device = self.new.device; fuse = self.new.fuse } }
+    {
+        self.device.increment(id, &mut self.fuse)
+    }
+
+    /// The next random word, in one step of the fuse.
+    ///
+    /// # Errors
+    ///
+    /// Those of `Board::random`.
+    pub fn random(&mut self) -> Result<[u8; 20], RandomFault>
+        ensures ends { Ends (reported random_fault RandomFault.PowerLost)
+            (on_device (ask Command.Random) (session_device self.old))
+            (session_device self.new) result }
+        ensures others { self.new ≡ record self.old { device = self.new.device; fuse = self.new.fuse } }
+    {
+        self.device.random(&mut self.fuse)
     }
 
     /// Extends register 17 by the text that `front` and `text` are together, in one step of the fuse.
