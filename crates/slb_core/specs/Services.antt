@@ -8,10 +8,14 @@ use Rattle.i386_profile.specs.Effects.{State, Outcome, GoesOn, CallsGate, Faults
 use Rattle.machine_memory.specs.Writes.{part, written}
 use Rattle.seal_device.specs.Sealed.{longest_sealed}
 use Rattle.seal_device.specs.Blobs.{blob_size}
-use Rattle.seal_device.specs.Commands.{Command, Extend, ReadRegister, Seal, Unseal, Reply, launch_register}
+use Rattle.tpm_state.specs.Refusals.Create as creates
+use Rattle.tpm_state.specs.Refusals.ReadCounter as reads
+use Rattle.tpm_state.specs.Refusals.Increment as increments
+use Rattle.seal_device.specs.Commands.{Command, Extend, ReadRegister, Seal, Unseal, NewCounter, ReadCounter, Increment, Random, Reply, launch_register}
 use Rattle.seal_device.specs.Refusals.Register as registers
 use Rattle.seal_device.specs.Refusals.Seal as seals
 use Rattle.seal_device.specs.Refusals.Unseal as unseals
+use Rattle.seal_device.specs.Refusals.Random as randoms
 use Rattle.late_launch.specs.declared.ends.End.{End}
 use Rattle.late_launch.specs.declared.ends.End.TheVariants.{Done, Fault}
 use Rattle.slb_core.specs.declared.sealing.CounterAsked.{CounterAsked}
@@ -66,9 +70,13 @@ to_extend s =
     (λ reply. Return (Next (answered s 0)))
     else Return fault_segment
 
+-- bytes at edi, where eax is 0
+abbrev pub handed : State → List ℕ → State
+handed s bytes = answered (record s { bytes = written s.bytes (get s.cpu Edi) bytes }) 0
+
 -- the value of a register at edi, or the refusal's number
 abbrev pub shown : State → Result (List ℕ) registers.Refusal → State
-shown s (Ok value) = answered (record s { bytes = written s.bytes (get s.cpu Edi) value }) 0
+shown s (Ok value) = handed s value
 shown s (Err registers.NoRegister) = answered s 1
 
 -- to read the register of number ebx: its 20 bytes come to edi
@@ -79,9 +87,8 @@ to_read s =
     else Return fault_segment
 
 -- bytes at edi, and in ecx how many they are
-abbrev pub handed : State → List ℕ → State
-handed s bytes =
-    with_reg (answered (record s { bytes = written s.bytes (get s.cpu Edi) bytes }) 0) Ecx (length bytes)
+abbrev pub handed_with_length : State → List ℕ → State
+handed_with_length s bytes = with_reg (handed s bytes) Ecx (length bytes)
 
 -- the counter that a number asks for: none by 2^32 - 1, the counter of this number up to 255, and from 256 to 511
 -- the one of the number past 256, for its next value; by any other number one that there can't be
@@ -96,12 +103,13 @@ counter_asked number =
 abbrev pub seal_number : seals.Refusal → ℕ
 seal_number seals.TooLong = 1
 seal_number seals.NoCounter = 2
+seal_number seals.CounterEnd = 3
 seal_number seals.SerialEnd = 4
 seal_number seals.Unprovisioned = 6
 
 -- the blob, or the refusal's number
 abbrev pub sealed : State → Result (List ℕ) seals.Refusal → State
-sealed s (Ok blob) = handed s blob
+sealed s (Ok blob) = handed_with_length s blob
 sealed s (Err refusal) = answered s (seal_number refusal)
 
 -- to seal the bytes at ebx, ecx of them, by the counter that is asked for
@@ -136,7 +144,7 @@ unseal_number unseals.Unprovisioned = 6
 -- the bytes that were sealed, or the refusal's number
 abbrev pub opened : State → Result (List ℕ) unseals.Refusal → TurnEnd
 opened s (Ok bytes) =
-    if lies_in (get s.cpu Edi) (length bytes) then Next (handed s bytes) else fault_segment
+    if lies_in (get s.cpu Edi) (length bytes) then Next (handed_with_length s bytes) else fault_segment
 opened s (Err refusal) = Next (answered s (unseal_number refusal))
 
 -- to unseal: the blob lies at ebx, ecx bytes of it, and what was sealed in it comes to edi
@@ -148,6 +156,74 @@ to_unseal s =
     else Return (Next (answered s (unseal_number unseals.NotBlob)))
     else Return fault_segment
 
+-- ---- counters and random words
+
+-- the last number that a counter may be asked for by
+abbrev pub last_id : ℕ
+last_id = 255
+
+-- the number of each refusal to create a counter
+abbrev pub create_number : creates.Refusal → ℕ
+create_number creates.Full = 1
+create_number creates.End = 2
+
+-- the counter's id in ebx, or the refusal's number
+abbrev pub created : State → Result ℕ creates.Refusal → State
+created s (Ok id) = with_reg (answered s 0) Ebx id
+created s (Err refusal) = answered s (create_number refusal)
+
+-- to create a counter, which register 17's present value owns
+abbrev pub to_create : State → Plan Command Reply TurnEnd
+to_create s = Ask NewCounter (λ reply. Return (Next (created s reply)))
+
+-- the number of the refusal to read a counter
+abbrev pub read_number : reads.Refusal → ℕ
+read_number reads.NoCounter = 3
+
+-- the number of each refusal to increment a counter
+abbrev pub increment_number : increments.Refusal → ℕ
+increment_number increments.End = 2
+increment_number increments.NoCounter = 3
+increment_number increments.NotOwner = 4
+
+-- a counter's value in ecx, or the refusal's number
+abbrev pub counted : {E : Type 0} → (E → ℕ) → State → Result ℕ E → State
+counted number s (Ok value) = with_reg (answered s 0) Ecx value
+counted number s (Err refusal) = answered s (number refusal)
+
+-- to read the counter of number ebx
+abbrev pub to_read_counter : State → Plan Command Reply TurnEnd
+to_read_counter s =
+    if nat_le (get s.cpu Ebx) last_id
+    then Ask (ReadCounter (get s.cpu Ebx)) (λ reply. Return (Next (counted read_number s reply)))
+    else Return (Next (answered s (read_number reads.NoCounter)))
+
+-- to increment the counter of number ebx
+abbrev pub to_increment : State → Plan Command Reply TurnEnd
+to_increment s =
+    if nat_le (get s.cpu Ebx) last_id
+    then Ask (Increment (get s.cpu Ebx)) (λ reply. Return (Next (counted increment_number s reply)))
+    else Return (Next (answered s (increment_number increments.NoCounter)))
+
+-- the number of each refusal to draw a random word
+abbrev pub random_number : randoms.Refusal → ℕ
+random_number randoms.RandomEnd = 4
+random_number randoms.Unprovisioned = 6
+
+-- a random word at edi, or the refusal's number
+abbrev pub drawn : State → Result (List ℕ) randoms.Refusal → State
+drawn s (Ok word) = handed s word
+drawn s (Err refusal) = answered s (random_number refusal)
+
+-- to draw a random word: its 20 bytes come to edi
+abbrev pub to_draw : State → Plan Command Reply TurnEnd
+to_draw s =
+    if lies_in (get s.cpu Edi) 20
+    then Ask Random (λ reply. Return (Next (drawn s reply)))
+    else Return fault_segment
+
+-- ---- the gate of services
+
 -- the services, by their numbers
 pub data Service : Type 0 where
   ToEnd : Service
@@ -155,7 +231,12 @@ pub data Service : Type 0 where
   ToRead : Service
   ToSeal : Service
   ToUnseal : Service
+  ToCreate : Service
+  ToReadCounter : Service
+  ToIncrement : Service
+  ToDraw : Service
 
+-- the service of a number, if it has one
 abbrev pub service_of : ℕ → Option Service
 service_of number =
     if number == 0 then Some ToEnd
@@ -163,6 +244,10 @@ service_of number =
     else if number == 2 then Some ToRead
     else if number == 3 then Some ToSeal
     else if number == 4 then Some ToUnseal
+    else if number == 5 then Some ToCreate
+    else if number == 6 then Some ToReadCounter
+    else if number == 7 then Some ToIncrement
+    else if number == 8 then Some ToDraw
     else None
 
 -- what a service comes to
@@ -172,6 +257,10 @@ comes_to (Some ToExtend) s = to_extend s
 comes_to (Some ToRead) s = to_read s
 comes_to (Some ToSeal) s = to_seal s
 comes_to (Some ToUnseal) s = to_unseal s
+comes_to (Some ToCreate) s = to_create s
+comes_to (Some ToReadCounter) s = to_read_counter s
+comes_to (Some ToIncrement) s = to_increment s
+comes_to (Some ToDraw) s = to_draw s
 comes_to None s = Return fault_instruction
 
 -- ---- turns

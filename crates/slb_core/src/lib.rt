@@ -1,6 +1,7 @@
 //! The core of a session: it runs the launched code turn by turn, serves its gates, and closes the session.
 #![tactic(auto)]
 
+mod counting;
 mod laws;
 mod pal;
 mod sealing;

@@ -5,7 +5,7 @@ ghost use Rattle.i386_profile.specs.Effects.{state};
 ghost use Rattle.seal_device.specs.Sealed.{longest_sealed};
 ghost use Rattle.seal_device.specs.Digests.{on_device};
 ghost use Rattle.late_launch.specs.States.{session_device};
-ghost use Rattle.slb_core.specs.Services.{counter_asked, handed, to_seal, to_seal_by, to_unseal};
+ghost use Rattle.slb_core.specs.Services.{counter_asked, handed_with_length, to_seal, to_seal_by, to_unseal};
 ghost use Rattle.slb_core.specs.Spans.{with_region};
 ghost use Rattle.slb_core.specs.Reports.{TurnEnds};
 
@@ -55,7 +55,7 @@ fn counter_asked(number: u32) -> Option<CounterAsked>
 /// Puts bytes at edi, and how many they are into ecx.
 fn hand_over(session: &mut Launched, cpu: &mut Cpu, bytes: &[u8])
     requires fits { get cpu.old Reg.Edi + length bytes.now ≤ 65536 }
-    ensures state { state cpu.new session.new.region ≡ handed (state cpu.old session.old.region) bytes.now }
+    ensures state { state cpu.new session.new.region ≡ handed_with_length (state cpu.old session.old.region) bytes.now }
     ensures others { session.new ≡ with_region session.old session.new.region }
 {
     write_span(session, cpu.regs[Reg::Edi as usize] as usize, bytes);

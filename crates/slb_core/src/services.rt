@@ -6,6 +6,7 @@ ghost use Rattle.late_launch.specs.States.{session_device};
 ghost use Rattle.slb_core.specs.Services.{to_extend, to_read, service_of, comes_to, gate, turn};
 ghost use Rattle.slb_core.specs.Reports.{TurnEnds};
 
+use crate::counting::{to_create, to_draw, to_increment, to_read_counter};
 use crate::sealing::{to_seal, to_unseal};
 use crate::spans::{lies_in, read_span, write_span};
 use crate::turn::{SEGMENT_SIZE, execute};
@@ -124,6 +125,10 @@ fn serve_gate(
         2 => return to_read(session, cpu, outputs),
         3 => return to_seal(session, cpu, outputs),
         4 => return to_unseal(session, cpu, outputs),
+        5 => return to_create(session, cpu, outputs),
+        6 => return to_read_counter(session, cpu, outputs),
+        7 => return to_increment(session, cpu, outputs),
+        8 => return to_draw(session, cpu, outputs),
         _ => return Ok(Turned::Over(End::Fault(FaultKind::Instruction))),
     }
 }
