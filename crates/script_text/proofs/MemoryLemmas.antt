@@ -7,7 +7,11 @@ use Rattle.script_text.specs.Grammar.{Request, Nothing, Meanings, row, request, 
 use Rattle.script_text.specs.Reading.{IsEarly, IsLate, may_allocate, words_may_allocate, reading}
 use Rattle.script_text.specs.Seen.{line_fault, request_of}
 use Rattle.script_text.specs.declared.command.Command.{Command}
-use Rattle.script_text.specs.declared.command.Command.TheVariants.{Extend}
+use Rattle.script_text.specs.declared.command.Command.TheVariants.{Device, Values, Memory, Processor}
+use Rattle.script_text.specs.declared.command.DeviceCommand.TheVariants.{Extend}
+use Rattle.script_text.specs.declared.command.ValuesCommand.TheVariants.{Let}
+use Rattle.script_text.specs.declared.command.MemoryCommand.TheVariants.{Take}
+use Rattle.script_text.specs.declared.command.ProcessorCommand.TheVariants.{SetReg}
 use Rattle.script_text.specs.declared.line.Event.{Event}
 use Rattle.script_text.specs.declared.line.Event.TheVariants as event
 use Rattle.script_text.specs.declared.line.LineFault.{LineFault}
@@ -24,7 +28,10 @@ words_of asked line s =
 
 asks_something : (command : Command) (arguments : Meanings (row command).kinds)
     → Nothing ≡ request command arguments → ⊥
-asks_something Extend arguments h = cc
+asks_something (Device Extend) arguments h = cc
+asks_something (Values Let) arguments h = cc
+asks_something (Memory Take) arguments h = cc
+asks_something (Processor SetReg) arguments h = cc
 asks_something _ arguments h = cc
 
 blank_event : (x : Event) → request_of x ≡ Nothing → x ≡ event.Blank

@@ -22,7 +22,11 @@ use Rattle.script_text.specs.Seen.{line_fault, IsShortName, HasShortName, HasReg
 use Rattle.script_text.specs.declared.command.Kind.{Kind}
 use Rattle.script_text.specs.declared.command.Kind.TheVariants.{Number, Name, ImageKind, Register, Expression}
 use Rattle.script_text.specs.declared.command.Command.{Command}
-use Rattle.script_text.specs.declared.command.Command.TheVariants.{Extend, Read, Let, Show, Image, Take, Give, Poke, Peek, Dma, SetReg, Regs, Arm, Session, SessionInto, Seed, Unseal, UnsealInto}
+use Rattle.script_text.specs.declared.command.Command.TheVariants.{Device, Values, Memory, Processor}
+use Rattle.script_text.specs.declared.command.DeviceCommand.TheVariants.{Extend, Read, Seed, Unseal, UnsealInto, Counter, Random, RandomInto}
+use Rattle.script_text.specs.declared.command.ValuesCommand.TheVariants.{Let, Show, Image}
+use Rattle.script_text.specs.declared.command.MemoryCommand.TheVariants.{Take, Give, Poke, Peek, Dma}
+use Rattle.script_text.specs.declared.command.ProcessorCommand.TheVariants.{SetReg, Regs, Arm, Session, SessionInto}
 use Rattle.script_text.specs.declared.command.TheConstants.{COMMANDS}
 use Rattle.script_text.specs.declared.line.TheConstants.{LONGEST_LINE}
 use Rattle.script_text.specs.declared.line.LineFault.{LineFault}
@@ -44,24 +48,27 @@ pub record IsListed (command : Command) : Type 0 where
 
 pub listed : (command : Command) → IsListed command
 unfolding is_command command_of
-listed Extend = record { known = refl; found = refl; plain = λ others. refl }
-listed Read = record { known = refl; found = refl; plain = λ others. refl }
-listed Let = record { known = refl; found = refl; plain = λ others. refl }
-listed Show = record { known = refl; found = refl; plain = λ others. refl }
-listed Image = record { known = refl; found = refl; plain = λ others. refl }
-listed Take = record { known = refl; found = refl; plain = λ others. refl }
-listed Give = record { known = refl; found = refl; plain = λ others. refl }
-listed Poke = record { known = refl; found = refl; plain = λ others. refl }
-listed Peek = record { known = refl; found = refl; plain = λ others. refl }
-listed Dma = record { known = refl; found = refl; plain = λ others. refl }
-listed SetReg = record { known = refl; found = refl; plain = λ others. refl }
-listed Regs = record { known = refl; found = refl; plain = λ others. refl }
-listed Arm = record { known = refl; found = refl; plain = λ others. refl }
-listed Session = record { known = refl; found = refl; plain = λ others. refl }
-listed SessionInto = record { known = refl; found = refl; plain = λ others. refl }
-listed Seed = record { known = refl; found = refl; plain = λ others. refl }
-listed Unseal = record { known = refl; found = refl; plain = λ others. refl }
-listed UnsealInto = record { known = refl; found = refl; plain = λ others. refl }
+listed (Device Extend) = record { known = refl; found = refl; plain = λ others. refl }
+listed (Device Read) = record { known = refl; found = refl; plain = λ others. refl }
+listed (Values Let) = record { known = refl; found = refl; plain = λ others. refl }
+listed (Values Show) = record { known = refl; found = refl; plain = λ others. refl }
+listed (Values Image) = record { known = refl; found = refl; plain = λ others. refl }
+listed (Memory Take) = record { known = refl; found = refl; plain = λ others. refl }
+listed (Memory Give) = record { known = refl; found = refl; plain = λ others. refl }
+listed (Memory Poke) = record { known = refl; found = refl; plain = λ others. refl }
+listed (Memory Peek) = record { known = refl; found = refl; plain = λ others. refl }
+listed (Memory Dma) = record { known = refl; found = refl; plain = λ others. refl }
+listed (Processor SetReg) = record { known = refl; found = refl; plain = λ others. refl }
+listed (Processor Regs) = record { known = refl; found = refl; plain = λ others. refl }
+listed (Processor Arm) = record { known = refl; found = refl; plain = λ others. refl }
+listed (Processor Session) = record { known = refl; found = refl; plain = λ others. refl }
+listed (Processor SessionInto) = record { known = refl; found = refl; plain = λ others. refl }
+listed (Device Seed) = record { known = refl; found = refl; plain = λ others. refl }
+listed (Device Unseal) = record { known = refl; found = refl; plain = λ others. refl }
+listed (Device UnsealInto) = record { known = refl; found = refl; plain = λ others. refl }
+listed (Device Counter) = record { known = refl; found = refl; plain = λ others. refl }
+listed (Device Random) = record { known = refl; found = refl; plain = λ others. refl }
+listed (Device RandomInto) = record { known = refl; found = refl; plain = λ others. refl }
 
 passes : {A : Type 0} (test : A → Bool) (xs : List A) (x : A) → find test xs ≡ Some x
     → test x ≡ true
@@ -274,15 +281,20 @@ keep_each (kind ∷ kinds) (word ∷ others) meanings s =
 
 request_short : (command : Command) (arguments : Meanings (row command).kinds)
     → KeepEach (row command).kinds arguments → HasShortName (request command arguments)
-request_short Let arguments k = k.0
-request_short Image arguments k = k.0
-request_short SessionInto arguments k = k.1.1.1.0
-request_short UnsealInto arguments k = k.1.0
+request_short (Values Let) arguments k = k.0
+request_short (Values Image) arguments k = k.0
+request_short (Processor SessionInto) arguments k = k.1.1.1.0
+request_short (Device UnsealInto) arguments k = k.1.0
+request_short (Device RandomInto) arguments k = k.0
+request_short (Memory Take) arguments k = tt
 request_short _ arguments k = tt
 
 request_register : (command : Command) (arguments : Meanings (row command).kinds)
     → KeepEach (row command).kinds arguments → HasRegister (request command arguments)
-request_register SetReg arguments k = k.0
+request_register (Processor SetReg) arguments k = k.0
+request_register (Device Extend) arguments k = tt
+request_register (Values Let) arguments k = tt
+request_register (Memory Take) arguments k = tt
 request_register _ arguments k = tt
 
 -- a name that is bound has 1 to 16 bytes

@@ -9,7 +9,11 @@ use Rattle.script_text.specs.declared.line.TheConstants.{LONGEST_LINE}
 use Rattle.script_text.specs.declared.command.Kind.{Kind}
 use Rattle.script_text.specs.declared.command.Kind.TheVariants.{Number, Name, ImageKind, Register, Expression}
 use Rattle.script_text.specs.declared.command.Command.{Command}
-use Rattle.script_text.specs.declared.command.Command.TheVariants.{Extend, Read, Let, Show, Image, Take, Give, Poke, Peek, Dma, SetReg, Regs, Arm, Session, SessionInto, Seed, Unseal, UnsealInto}
+use Rattle.script_text.specs.declared.command.Command.TheVariants.{Device, Values, Memory, Processor}
+use Rattle.script_text.specs.declared.command.DeviceCommand.TheVariants.{Extend, Read, Seed, Unseal, UnsealInto, Counter, Random, RandomInto}
+use Rattle.script_text.specs.declared.command.ValuesCommand.TheVariants.{Let, Show, Image}
+use Rattle.script_text.specs.declared.command.MemoryCommand.TheVariants.{Take, Give, Poke, Peek, Dma}
+use Rattle.script_text.specs.declared.command.ProcessorCommand.TheVariants.{SetReg, Regs, Arm, Session, SessionInto}
 
 -- what a line asks for: nothing, to extend a register by a text, to read a register, to bind a name
 -- to a value, to show a value, or to bind a name to the image of some code; of memory to take so
@@ -17,7 +21,8 @@ use Rattle.script_text.specs.declared.command.Command.TheVariants.{Extend, Read,
 -- so many, or to have a device write some; and of the processor to set a register, to show all, to
 -- have a device write bytes at a turn of the next session, or to run a session of an image on
 -- inputs, and to bind a name, if there is one, to what it puts out; and of the sealing device to
--- give it a seed, or to open a blob, and to bind a name, if there is one, to what was sealed in it
+-- give it a seed, to open a blob, and to bind a name, if there is one, to what was sealed in it, to
+-- show the value of a counter, or to draw a random word, and to bind a name, if there is one, to it
 pub data Request : Type 0 where
   Nothing : Request
   ExtendBy : (r : ℕ) → (text : List Term) → Request
@@ -37,6 +42,8 @@ pub data Request : Type 0 where
   SessionOf : (image inputs nonce : List Term) → (var : Option (List ℕ)) → Request
   SeedOf : (seed : List Term) → Request
   UnsealOf : (blob : List Term) → (var : Option (List ℕ)) → Request
+  CounterOf : (id : ℕ) → Request
+  RandomOf : (var : Option (List ℕ)) → Request
 
 -- ---- words, by their kinds
 
@@ -95,48 +102,54 @@ pub record Row : Type 0 where
 
 -- the row of each command
 abbrev pub row : Command → Row
-row Extend = record { word = codes "extend"; kinds = Number ∷ Expression ∷ [] }
-row Read = record { word = codes "read"; kinds = Number ∷ [] }
-row Let = record { word = codes "let"; kinds = Name ∷ Expression ∷ [] }
-row Show = record { word = codes "show"; kinds = Expression ∷ [] }
-row Image =
+row (Device Extend) = record { word = codes "extend"; kinds = Number ∷ Expression ∷ [] }
+row (Device Read) = record { word = codes "read"; kinds = Number ∷ [] }
+row (Values Let) = record { word = codes "let"; kinds = Name ∷ Expression ∷ [] }
+row (Values Show) = record { word = codes "show"; kinds = Expression ∷ [] }
+row (Values Image) =
     record { word = codes "image"; kinds = Name ∷ ImageKind ∷ Number ∷ Number ∷ Expression ∷ [] }
-row Take = record { word = codes "take"; kinds = Number ∷ [] }
-row Give = record { word = codes "give"; kinds = Number ∷ [] }
-row Poke = record { word = codes "poke"; kinds = Number ∷ Expression ∷ [] }
-row Peek = record { word = codes "peek"; kinds = Number ∷ Number ∷ [] }
-row Dma = record { word = codes "dma"; kinds = Number ∷ Expression ∷ [] }
-row SetReg = record { word = codes "reg"; kinds = Register ∷ Number ∷ [] }
-row Regs = record { word = codes "regs"; kinds = [] }
-row Arm = record { word = codes "arm"; kinds = Number ∷ Number ∷ Expression ∷ [] }
-row Session = record { word = codes "session"; kinds = Expression ∷ Expression ∷ Expression ∷ [] }
-row SessionInto =
+row (Memory Take) = record { word = codes "take"; kinds = Number ∷ [] }
+row (Memory Give) = record { word = codes "give"; kinds = Number ∷ [] }
+row (Memory Poke) = record { word = codes "poke"; kinds = Number ∷ Expression ∷ [] }
+row (Memory Peek) = record { word = codes "peek"; kinds = Number ∷ Number ∷ [] }
+row (Memory Dma) = record { word = codes "dma"; kinds = Number ∷ Expression ∷ [] }
+row (Processor SetReg) = record { word = codes "reg"; kinds = Register ∷ Number ∷ [] }
+row (Processor Regs) = record { word = codes "regs"; kinds = [] }
+row (Processor Arm) = record { word = codes "arm"; kinds = Number ∷ Number ∷ Expression ∷ [] }
+row (Processor Session) = record { word = codes "session"; kinds = Expression ∷ Expression ∷ Expression ∷ [] }
+row (Processor SessionInto) =
     record { word = codes "session"; kinds = Expression ∷ Expression ∷ Expression ∷ Name ∷ [] }
-row Seed = record { word = codes "seed"; kinds = Expression ∷ [] }
-row Unseal = record { word = codes "unseal"; kinds = Expression ∷ [] }
-row UnsealInto = record { word = codes "unseal"; kinds = Expression ∷ Name ∷ [] }
+row (Device Seed) = record { word = codes "seed"; kinds = Expression ∷ [] }
+row (Device Unseal) = record { word = codes "unseal"; kinds = Expression ∷ [] }
+row (Device UnsealInto) = record { word = codes "unseal"; kinds = Expression ∷ Name ∷ [] }
+row (Device Counter) = record { word = codes "counter"; kinds = Number ∷ [] }
+row (Device Random) = record { word = codes "random"; kinds = [] }
+row (Device RandomInto) = record { word = codes "random"; kinds = Name ∷ [] }
 
 -- what a command asks for with these arguments
 abbrev pub request : (command : Command) → Meanings (row command).kinds → Request
-request Extend (r, (text, _)) = ExtendBy r text
-request Read (r, _) = ReadOf r
-request Let (name, (value, _)) = LetBe name value
-request Show (value, _) = ShowOf value
-request Image (name, (job, (entry, (budget, (code, _))))) = ImageOf name job entry budget code
-request Take (frames, _) = TakeOf frames
-request Give (at, _) = GiveAt at
-request Poke (at, (bytes, _)) = PokeAt at bytes
-request Peek (at, (count, _)) = PeekAt at count
-request Dma (at, (bytes, _)) = DmaAt at bytes
-request SetReg (reg, (n, _)) = SetRegOf reg n
-request Regs _ = RegsOf
-request Arm (turn, (at, (bytes, _))) = ArmAt turn at bytes
-request Session (image, (inputs, (nonce, _))) = SessionOf image inputs nonce None
-request SessionInto (image, (inputs, (nonce, (var, _)))) =
+request (Device Extend) (r, (text, _)) = ExtendBy r text
+request (Device Read) (r, _) = ReadOf r
+request (Values Let) (name, (value, _)) = LetBe name value
+request (Values Show) (value, _) = ShowOf value
+request (Values Image) (name, (job, (entry, (budget, (code, _))))) = ImageOf name job entry budget code
+request (Memory Take) (frames, _) = TakeOf frames
+request (Memory Give) (at, _) = GiveAt at
+request (Memory Poke) (at, (bytes, _)) = PokeAt at bytes
+request (Memory Peek) (at, (count, _)) = PeekAt at count
+request (Memory Dma) (at, (bytes, _)) = DmaAt at bytes
+request (Processor SetReg) (reg, (n, _)) = SetRegOf reg n
+request (Processor Regs) _ = RegsOf
+request (Processor Arm) (turn, (at, (bytes, _))) = ArmAt turn at bytes
+request (Processor Session) (image, (inputs, (nonce, _))) = SessionOf image inputs nonce None
+request (Processor SessionInto) (image, (inputs, (nonce, (var, _)))) =
     SessionOf image inputs nonce (Some var)
-request Seed (seed, _) = SeedOf seed
-request Unseal (blob, _) = UnsealOf blob None
-request UnsealInto (blob, (var, _)) = UnsealOf blob (Some var)
+request (Device Seed) (seed, _) = SeedOf seed
+request (Device Unseal) (blob, _) = UnsealOf blob None
+request (Device UnsealInto) (blob, (var, _)) = UnsealOf blob (Some var)
+request (Device Counter) (id, _) = CounterOf id
+request (Device Random) _ = RandomOf None
+request (Device RandomInto) (var, _) = RandomOf (Some var)
 
 -- ---- lines
 

@@ -7,7 +7,9 @@ ghost use Rattle.script_text.specs.Reading.{is_kept, may_allocate};
 ghost use Rattle.script_text.specs.Seen.{line_fault, request_of};
 ghost use Rattle.script_text.specs.declared.command.Kind.TheVariants.{Number, Name, ImageKind, Register, Expression};
 
-use crate::command::{Command, Kind, MOST_ARGUMENTS};
+use crate::command::{
+    Command, DeviceCommand, Kind, MOST_ARGUMENTS, MemoryCommand, ProcessorCommand, ValuesCommand,
+};
 use crate::line::{Event, LineError, LineFault};
 use crate::words::Words;
 use arrayvec::ArrayVec;
@@ -232,81 +234,128 @@ fn expression_in(alloc: Global, word: &[u8]) -> Result<Argument, LineError>
 }
 
 /// What a line asks for that has this command and these arguments.
-pub(crate) fn event_of(command: Command, mut arguments: Arguments) -> Event
+pub(crate) fn event_of(command: Command, arguments: Arguments) -> Event
     requires { IsOf (row command).kinds arguments }
     ensures { request_from command arguments ≡ Some (request_of result) }
 {
     match command {
-        Command::Extend => Event::Extend {
+        Command::Device(command) => device_event(command, arguments),
+        Command::Values(command) => values_event(command, arguments),
+        Command::Memory(command) => memory_event(command, arguments),
+        Command::Processor(command) => processor_event(command, arguments),
+    }
+}
+
+// The same of a command for the sealing device.
+fn device_event(command: DeviceCommand, mut arguments: Arguments) -> Event
+    requires { IsOf (row (Command.Device command)).kinds arguments }
+    ensures { request_from (Command.Device command) arguments ≡ Some (request_of result) }
+{
+    match command {
+        DeviceCommand::Extend => Event::Extend {
             r: arguments.number(),
             text: arguments.expression(),
         },
-        Command::Read => Event::Read {
+        DeviceCommand::Read => Event::Read {
             r: arguments.number(),
         },
-        Command::Let => Event::Let {
+        DeviceCommand::Seed => Event::Seed {
+            seed: arguments.expression(),
+        },
+        DeviceCommand::Unseal => Event::Unseal {
+            blob: arguments.expression(),
+            var: None,
+        },
+        DeviceCommand::UnsealInto => Event::Unseal {
+            blob: arguments.expression(),
+            var: Some(arguments.name()),
+        },
+        DeviceCommand::Counter => Event::Counter {
+            id: arguments.number(),
+        },
+        DeviceCommand::Random => Event::Random { var: None },
+        DeviceCommand::RandomInto => Event::Random {
+            var: Some(arguments.name()),
+        },
+    }
+}
+
+// The same of a command for names and values.
+fn values_event(command: ValuesCommand, mut arguments: Arguments) -> Event
+    requires { IsOf (row (Command.Values command)).kinds arguments }
+    ensures { request_from (Command.Values command) arguments ≡ Some (request_of result) }
+{
+    match command {
+        ValuesCommand::Let => Event::Let {
             var: arguments.name(),
             value: arguments.expression(),
         },
-        Command::Show => Event::Show {
+        ValuesCommand::Show => Event::Show {
             value: arguments.expression(),
         },
-        Command::Image => Event::Image {
+        ValuesCommand::Image => Event::Image {
             var: arguments.name(),
             job: arguments.image_kind(),
             entry: arguments.number(),
             budget: arguments.number(),
             code: arguments.expression(),
         },
-        Command::Take => Event::Take {
+    }
+}
+
+// The same of a command for memory.
+fn memory_event(command: MemoryCommand, mut arguments: Arguments) -> Event
+    requires { IsOf (row (Command.Memory command)).kinds arguments }
+    ensures { request_from (Command.Memory command) arguments ≡ Some (request_of result) }
+{
+    match command {
+        MemoryCommand::Take => Event::Take {
             n: arguments.number(),
         },
-        Command::Give => Event::Give {
+        MemoryCommand::Give => Event::Give {
             at: arguments.number(),
         },
-        Command::Poke => Event::Poke {
+        MemoryCommand::Poke => Event::Poke {
             at: arguments.number(),
             bytes: arguments.expression(),
         },
-        Command::Peek => Event::Peek {
+        MemoryCommand::Peek => Event::Peek {
             at: arguments.number(),
             len: arguments.number(),
         },
-        Command::Dma => Event::Dma {
+        MemoryCommand::Dma => Event::Dma {
             at: arguments.number(),
             bytes: arguments.expression(),
         },
-        Command::SetReg => Event::SetReg {
+    }
+}
+
+// The same of a command for the processor.
+fn processor_event(command: ProcessorCommand, mut arguments: Arguments) -> Event
+    requires { IsOf (row (Command.Processor command)).kinds arguments }
+    ensures { request_from (Command.Processor command) arguments ≡ Some (request_of result) }
+{
+    match command {
+        ProcessorCommand::SetReg => Event::SetReg {
             reg: arguments.register(),
             n: arguments.number(),
         },
-        Command::Regs => Event::Regs,
-        Command::Arm => Event::Arm {
+        ProcessorCommand::Regs => Event::Regs,
+        ProcessorCommand::Arm => Event::Arm {
             turn: arguments.number(),
             at: arguments.number(),
             bytes: arguments.expression(),
         },
-        Command::Session => Event::Session {
+        ProcessorCommand::Session => Event::Session {
             image: arguments.expression(),
             inputs: arguments.expression(),
             nonce: arguments.expression(),
             var: None,
         },
-        Command::SessionInto => Event::Session {
+        ProcessorCommand::SessionInto => Event::Session {
             image: arguments.expression(),
             inputs: arguments.expression(),
             nonce: arguments.expression(),
-            var: Some(arguments.name()),
-        },
-        Command::Seed => Event::Seed {
-            seed: arguments.expression(),
-        },
-        Command::Unseal => Event::Unseal {
-            blob: arguments.expression(),
-            var: None,
-        },
-        Command::UnsealInto => Event::Unseal {
-            blob: arguments.expression(),
             var: Some(arguments.name()),
         },
     }

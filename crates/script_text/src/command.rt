@@ -21,49 +21,84 @@ pub(crate) enum Kind {
     Expression,
 }
 
-/// The commands. A line with a word that may be missing is two of them, without it and with it.
+/// The commands, by what they are for. A line with a word that may be missing is two of them,
+/// without it and with it.
 #[derive(Clone, Copy)]
 pub(crate) enum Command {
+    /// For the sealing device.
+    Device(DeviceCommand),
+    /// For names and values.
+    Values(ValuesCommand),
+    /// For memory.
+    Memory(MemoryCommand),
+    /// For the processor.
+    Processor(ProcessorCommand),
+}
+
+/// The commands for the sealing device.
+#[derive(Clone, Copy)]
+pub(crate) enum DeviceCommand {
     Extend,
     Read,
+    Seed,
+    Unseal,
+    UnsealInto,
+    Counter,
+    Random,
+    RandomInto,
+}
+
+/// The commands for names and values.
+#[derive(Clone, Copy)]
+pub(crate) enum ValuesCommand {
     Let,
     Show,
     Image,
+}
+
+/// The commands for memory.
+#[derive(Clone, Copy)]
+pub(crate) enum MemoryCommand {
     Take,
     Give,
     Poke,
     Peek,
     Dma,
+}
+
+/// The commands for the processor.
+#[derive(Clone, Copy)]
+pub(crate) enum ProcessorCommand {
     SetReg,
     Regs,
     Arm,
     Session,
     SessionInto,
-    Seed,
-    Unseal,
-    UnsealInto,
 }
 
 /// All of them.
-pub(crate) const COMMANDS: [Command; 18] = [
-    Command::Extend,
-    Command::Read,
-    Command::Let,
-    Command::Show,
-    Command::Image,
-    Command::Take,
-    Command::Give,
-    Command::Poke,
-    Command::Peek,
-    Command::Dma,
-    Command::SetReg,
-    Command::Regs,
-    Command::Arm,
-    Command::Session,
-    Command::SessionInto,
-    Command::Seed,
-    Command::Unseal,
-    Command::UnsealInto,
+pub(crate) const COMMANDS: [Command; 21] = [
+    Command::Device(DeviceCommand::Extend),
+    Command::Device(DeviceCommand::Read),
+    Command::Device(DeviceCommand::Seed),
+    Command::Device(DeviceCommand::Unseal),
+    Command::Device(DeviceCommand::UnsealInto),
+    Command::Device(DeviceCommand::Counter),
+    Command::Device(DeviceCommand::Random),
+    Command::Device(DeviceCommand::RandomInto),
+    Command::Values(ValuesCommand::Let),
+    Command::Values(ValuesCommand::Show),
+    Command::Values(ValuesCommand::Image),
+    Command::Memory(MemoryCommand::Take),
+    Command::Memory(MemoryCommand::Give),
+    Command::Memory(MemoryCommand::Poke),
+    Command::Memory(MemoryCommand::Peek),
+    Command::Memory(MemoryCommand::Dma),
+    Command::Processor(ProcessorCommand::SetReg),
+    Command::Processor(ProcessorCommand::Regs),
+    Command::Processor(ProcessorCommand::Arm),
+    Command::Processor(ProcessorCommand::Session),
+    Command::Processor(ProcessorCommand::SessionInto),
 ];
 
 /// The most arguments that a command has.
@@ -76,19 +111,38 @@ pub(crate) struct Row {
     pub(crate) kinds: &'static [Kind],
 }
 
-impl Command {
-    /// Its row.
-    pub(crate) fn row(self) -> Row
-        ensures word { result.word.now ≡ (row self).word }
-        ensures kinds { result.kinds.now ≡ (row self).kinds }
+impl DeviceCommand {
+    // Its row.
+    fn row(self) -> Row
+        ensures word { result.word.now ≡ (row (Command.Device self)).word }
+        ensures kinds { result.kinds.now ≡ (row (Command.Device self)).kinds }
         ensures few { length result.kinds.now ≤ MOST_ARGUMENTS }
     {
         let (word, kinds): (&'static [u8], &'static [Kind]) = match self {
-            Command::Extend => (b"extend", &[Kind::Number, Kind::Expression]),
-            Command::Read => (b"read", &[Kind::Number]),
-            Command::Let => (b"let", &[Kind::Name, Kind::Expression]),
-            Command::Show => (b"show", &[Kind::Expression]),
-            Command::Image => (
+            DeviceCommand::Extend => (b"extend", &[Kind::Number, Kind::Expression]),
+            DeviceCommand::Read => (b"read", &[Kind::Number]),
+            DeviceCommand::Seed => (b"seed", &[Kind::Expression]),
+            DeviceCommand::Unseal => (b"unseal", &[Kind::Expression]),
+            DeviceCommand::UnsealInto => (b"unseal", &[Kind::Expression, Kind::Name]),
+            DeviceCommand::Counter => (b"counter", &[Kind::Number]),
+            DeviceCommand::Random => (b"random", &[]),
+            DeviceCommand::RandomInto => (b"random", &[Kind::Name]),
+        };
+        Row { word, kinds }
+    }
+}
+
+impl ValuesCommand {
+    // Its row.
+    fn row(self) -> Row
+        ensures word { result.word.now ≡ (row (Command.Values self)).word }
+        ensures kinds { result.kinds.now ≡ (row (Command.Values self)).kinds }
+        ensures few { length result.kinds.now ≤ MOST_ARGUMENTS }
+    {
+        let (word, kinds): (&'static [u8], &'static [Kind]) = match self {
+            ValuesCommand::Let => (b"let", &[Kind::Name, Kind::Expression]),
+            ValuesCommand::Show => (b"show", &[Kind::Expression]),
+            ValuesCommand::Image => (
                 b"image",
                 &[
                     Kind::Name,
@@ -98,19 +152,45 @@ impl Command {
                     Kind::Expression,
                 ],
             ),
-            Command::Take => (b"take", &[Kind::Number]),
-            Command::Give => (b"give", &[Kind::Number]),
-            Command::Poke => (b"poke", &[Kind::Number, Kind::Expression]),
-            Command::Peek => (b"peek", &[Kind::Number, Kind::Number]),
-            Command::Dma => (b"dma", &[Kind::Number, Kind::Expression]),
-            Command::SetReg => (b"reg", &[Kind::Register, Kind::Number]),
-            Command::Regs => (b"regs", &[]),
-            Command::Arm => (b"arm", &[Kind::Number, Kind::Number, Kind::Expression]),
-            Command::Session => (
+        };
+        Row { word, kinds }
+    }
+}
+
+impl MemoryCommand {
+    // Its row.
+    fn row(self) -> Row
+        ensures word { result.word.now ≡ (row (Command.Memory self)).word }
+        ensures kinds { result.kinds.now ≡ (row (Command.Memory self)).kinds }
+        ensures few { length result.kinds.now ≤ MOST_ARGUMENTS }
+    {
+        let (word, kinds): (&'static [u8], &'static [Kind]) = match self {
+            MemoryCommand::Take => (b"take", &[Kind::Number]),
+            MemoryCommand::Give => (b"give", &[Kind::Number]),
+            MemoryCommand::Poke => (b"poke", &[Kind::Number, Kind::Expression]),
+            MemoryCommand::Peek => (b"peek", &[Kind::Number, Kind::Number]),
+            MemoryCommand::Dma => (b"dma", &[Kind::Number, Kind::Expression]),
+        };
+        Row { word, kinds }
+    }
+}
+
+impl ProcessorCommand {
+    // Its row.
+    fn row(self) -> Row
+        ensures word { result.word.now ≡ (row (Command.Processor self)).word }
+        ensures kinds { result.kinds.now ≡ (row (Command.Processor self)).kinds }
+        ensures few { length result.kinds.now ≤ MOST_ARGUMENTS }
+    {
+        let (word, kinds): (&'static [u8], &'static [Kind]) = match self {
+            ProcessorCommand::SetReg => (b"reg", &[Kind::Register, Kind::Number]),
+            ProcessorCommand::Regs => (b"regs", &[]),
+            ProcessorCommand::Arm => (b"arm", &[Kind::Number, Kind::Number, Kind::Expression]),
+            ProcessorCommand::Session => (
                 b"session",
                 &[Kind::Expression, Kind::Expression, Kind::Expression],
             ),
-            Command::SessionInto => (
+            ProcessorCommand::SessionInto => (
                 b"session",
                 &[
                     Kind::Expression,
@@ -119,11 +199,24 @@ impl Command {
                     Kind::Name,
                 ],
             ),
-            Command::Seed => (b"seed", &[Kind::Expression]),
-            Command::Unseal => (b"unseal", &[Kind::Expression]),
-            Command::UnsealInto => (b"unseal", &[Kind::Expression, Kind::Name]),
         };
         Row { word, kinds }
+    }
+}
+
+impl Command {
+    /// Its row.
+    pub(crate) fn row(self) -> Row
+        ensures word { result.word.now ≡ (row self).word }
+        ensures kinds { result.kinds.now ≡ (row self).kinds }
+        ensures few { length result.kinds.now ≤ MOST_ARGUMENTS }
+    {
+        match self {
+            Command::Device(command) => command.row(),
+            Command::Values(command) => command.row(),
+            Command::Memory(command) => command.row(),
+            Command::Processor(command) => command.row(),
+        }
     }
 
     // Whether it has this word, and as many words after it as these.

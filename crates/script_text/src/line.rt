@@ -108,6 +108,14 @@ pub enum Event {
         blob: Expr,
         var: Option<Bytes>,
     },
+    /// To show the value of the device's counter of this number.
+    Counter {
+        id: u32,
+    },
+    /// To draw a random word from the device, and to bind a name, if there is one, to its bytes.
+    Random {
+        var: Option<Bytes>,
+    },
 }
 
 /// The first thing that is wrong with a line, in the order of the checks. Of the words of one line,

@@ -1,6 +1,7 @@
 // Lines and what they ask for: each fault once, and two faults in one line, of which the first is
 // reported.
 use expr_text::{Expr, ExprError, ExprFault, Vars};
+use flk_base::Bytes;
 use script_text::{Event, LineError, LineFault, read_line};
 use std::alloc::Global;
 use std::test::Fail;
@@ -29,6 +30,23 @@ fn of_value<'e>(command: &'static str, first: u32, value: &'e Expr) -> Asked<'e>
         numbers: [first, 0, 0],
         name: b"",
         value: Some(value),
+    }
+}
+
+// A command with a name that may be missing, and with its first expression, if it has one.
+fn of_binding<'e>(
+    command: &'static str,
+    var: &'e Option<Bytes>,
+    value: Option<&'e Expr>,
+) -> Asked<'e> {
+    Asked {
+        command,
+        numbers: [0, 0, 0],
+        name: match var {
+            Some(name) => name.as_slice(),
+            None => b"",
+        },
+        value,
     }
 }
 
@@ -69,25 +87,11 @@ fn of_event(event: &Event) -> Asked<'_> {
             name: b"",
             value: Some(bytes),
         },
-        Event::Session { image, var, .. } => Asked {
-            command: "session",
-            numbers: [0, 0, 0],
-            name: match var {
-                Some(name) => name.as_slice(),
-                None => b"",
-            },
-            value: Some(image),
-        },
+        Event::Session { image, var, .. } => of_binding("session", var, Some(image)),
         Event::Seed { seed } => of_value("seed", 0, seed),
-        Event::Unseal { blob, var } => Asked {
-            command: "unseal",
-            numbers: [0, 0, 0],
-            name: match var {
-                Some(name) => name.as_slice(),
-                None => b"",
-            },
-            value: Some(blob),
-        },
+        Event::Unseal { blob, var } => of_binding("unseal", var, Some(blob)),
+        Event::Counter { id } => of_numbers("counter", *id, 0),
+        Event::Random { var } => of_binding("random", var, None),
     }
 }
 
@@ -123,7 +127,7 @@ fn is_row(alloc: Global, row: &Row) -> bool {
 
 #[test]
 fn good_lines(rt: HostRuntime) {
-    let rows: [Row; 41] = [
+    let rows: [Row; 48] = [
         ("", "", [0, 0, 0], "", &[]),
         (" \t ", "", [0, 0, 0], "", &[]),
         ("\r", "", [0, 0, 0], "", &[]),
@@ -171,6 +175,25 @@ fn good_lines(rt: HostRuntime) {
         ("seed rep:5a*3", "seed", [0, 0, 0], "", &[90, 90, 90]),
         ("unseal x:0102", "unseal", [0, 0, 0], "", &[1, 2]),
         ("unseal x: secret\r", "unseal", [0, 0, 0], "secret", &[]),
+        ("counter 0", "counter", [0, 0, 0], "", &[]),
+        ("counter 256", "counter", [256, 0, 0], "", &[]),
+        (
+            "counter 4294967295",
+            "counter",
+            [4_294_967_295, 0, 0],
+            "",
+            &[],
+        ),
+        ("\tcounter  0x10\r", "counter", [16, 0, 0], "", &[]),
+        ("random", "random", [0, 0, 0], "", &[]),
+        (" random\t\r", "random", [0, 0, 0], "", &[]),
+        (
+            "random abcdefghijklmnop",
+            "random",
+            [0, 0, 0],
+            "abcdefghijklmnop",
+            &[],
+        ),
     ];
     for (i, row) in rows.iter().enumerate() {
         assert!(rt; is_row(rt.alloc(), row), "row {i}");
@@ -237,7 +260,7 @@ fn is_bad(alloc: Global, line: &[u8], fault: LineFault) -> bool {
 
 #[test]
 fn bad_lines(rt: HostRuntime) {
-    let rows: [(&str, LineFault); 50] = [
+    let rows: [(&str, LineFault); 61] = [
         ("read 1\x01", LineFault::Byte),
         ("read 1\r\r", LineFault::Byte),
         ("# \x7f", LineFault::Byte),
@@ -288,6 +311,17 @@ fn bad_lines(rt: HostRuntime) {
         ("unseal x: v w", LineFault::Count),
         ("unseal 01 9", LineFault::Expression),
         ("unseal x: 9", LineFault::Name),
+        ("counters 1", LineFault::Command),
+        ("Random", LineFault::Command),
+        ("counter", LineFault::Count),
+        ("counter 1 2", LineFault::Count),
+        ("counter x x", LineFault::Count),
+        ("random a b", LineFault::Count),
+        ("counter x", LineFault::Number),
+        ("counter 4294967296", LineFault::Number),
+        ("random A", LineFault::Name),
+        ("random x:", LineFault::Name),
+        ("random abcdefghijklmnopq", LineFault::Name),
     ];
     for (i, (line, fault)) in rows.iter().enumerate() {
         assert!(rt; is_bad(rt.alloc(), line.as_bytes(), *fault), "row {i}");
