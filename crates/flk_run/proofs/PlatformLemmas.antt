@@ -8,7 +8,7 @@ use Rattle.expr_text.specs.declared.value.ExprFault.{ExprFault}
 use Rattle.expr_text.specs.Variables.{Table}
 use Rattle.expr_text.specs.Values.{value_of}
 use Rattle.script_text.specs.Grammar.{Request, SessionOf}
-use Rattle.flk_run.specs.Tasks.{Task, Rest, Refuse, Read, Give, SetRegister, ShowRegisters, MayAllocate, MayAllocateFor, task_or_fault, image_or_fault, peek_or_long, task_of}
+use Rattle.flk_run.specs.Tasks.{Task, Rest, Refuse, Read, Give, SetRegister, ShowRegisters, ReadCounter, Draw, MayAllocate, MayAllocateFor, task_or_fault, image_or_fault, peek_or_long, task_of}
 use Rattle.flk_run.specs.Seen.{binds, takes}
 
 -- values for which no fault is answered have none
@@ -59,6 +59,9 @@ allocates_binding (Read r) h = absurd (cc)
 allocates_binding (Give at) h = absurd (cc)
 allocates_binding (SetRegister reg n) h = absurd (cc)
 allocates_binding ShowRegisters h = absurd (cc)
+allocates_binding (ReadCounter id) h = absurd (cc)
+allocates_binding (Draw None) h = absurd (cc)
+allocates_binding (Draw (Some name)) h = tt
 allocates_binding _ h = tt
 
 pub allocates_ticket : (task : Task) → takes task ≡ true → MayAllocate task
@@ -68,6 +71,9 @@ allocates_ticket (Read r) h = absurd (cc)
 allocates_ticket (Give at) h = absurd (cc)
 allocates_ticket (SetRegister reg n) h = absurd (cc)
 allocates_ticket ShowRegisters h = absurd (cc)
+allocates_ticket (ReadCounter id) h = absurd (cc)
+allocates_ticket (Draw None) h = absurd (cc)
+allocates_ticket (Draw (Some name)) h = absurd (cc)
 allocates_ticket _ h = tt
 
 -- a request may allocate where its task does

@@ -9,6 +9,8 @@ use Rattle.seal_device.specs.Commands.{Command, Reply, costs, act}
 use Rattle.seal_device.specs.Refusals.Register as registers
 use Rattle.seal_device.specs.Refusals.Seed as seeds
 use Rattle.seal_device.specs.Refusals.Unseal as unseals
+use Rattle.seal_device.specs.Refusals.Random as randoms
+use Rattle.tpm_state.specs.Refusals.ReadCounter as reads
 use Rattle.script_text.specs.Grammar.{Request}
 use Rattle.slb_image.specs.Faults.{image_fault}
 use Rattle.machine_memory.specs.Contents.{first_byte, frame_of}
@@ -20,12 +22,12 @@ use Rattle.session_driver.specs.Sessions.{area_frames, area_alignment, setting_w
 use Rattle.session_driver.specs.Answers as session
 use Rattle.session_driver.specs.Answers.{Course, IsRefused, RunsAt, course_at}
 use Rattle.flk_run.specs.declared.answers.Refusal.{Refusal}
-use Rattle.flk_run.specs.declared.answers.Refusal.TheVariants.{NoRegister, NoImage, NoRoom, NoSpan, NoTaken, NoBlocked, NoInput, NoPlace, NoSeeded, NoSeed, NoBlob, NoChain, NoCounter, PowerLost}
+use Rattle.flk_run.specs.declared.answers.Refusal.TheVariants.{NoRegister, NoImage, NoRoom, NoSpan, NoTaken, NoBlocked, NoInput, NoPlace, NoSeeded, NoSeed, NoBlob, NoChain, NoCounter, NoEnd, PowerLost}
 use Rattle.flk_run.specs.declared.disk.SimDisk.{SimDisk}
 use Rattle.flk_run.specs.Answers.{SessionOver, Answer, Quiet, Done, Counts, Shows, Registers, Ended, Refused, line_of}
 use Rattle.machine_memory.specs.HostMemory.{HostMemory, HostSpan, is_taken, place, starts_at, are_taken, are_open, with_span, without_span, with_bytes}
 use Rattle.flk_run.specs.Platform.{Around, Platform, with_name, with_name_if, with_register, with_armed, with_memory, after_power_on}
-use Rattle.flk_run.specs.Tasks.{Task, Rest, Refuse, Extend, Read, Bind, Show, BindImage, Take, Give, Poke, Peek, Dma, SetRegister, ShowRegisters, Arm, RunSession, Seed, Unseal, task_of}
+use Rattle.flk_run.specs.Tasks.{Task, Rest, Refuse, Extend, Read, Bind, Show, BindImage, Take, Give, Poke, Peek, Dma, SetRegister, ShowRegisters, Arm, RunSession, Seed, Unseal, ReadCounter, Draw, task_of}
 
 -- ---- what memory is after an event, and the answer
 
@@ -151,6 +153,21 @@ abbrev pub after_unseal : Option (List ℕ) → Result (List ℕ) unseals.Refusa
 after_unseal var (Ok bytes) w = (with_name_if var bytes w, Shows bytes)
 after_unseal var (Err refusal) w = (w, Refused (unseal_refusal refusal))
 
+-- what is answered to the reading of a counter
+abbrev pub counter_answer : Result ℕ reads.Refusal → Answer
+counter_answer (Ok value) = Counts value
+counter_answer (Err reads.NoCounter) = Refused NoCounter
+
+-- what is answered where no random word is drawn
+abbrev pub random_refusal : randoms.Refusal → Refusal
+random_refusal randoms.Unprovisioned = NoSeed
+random_refusal randoms.RandomEnd = NoEnd
+
+-- a random word is shown, and the name is bound to it, where there is one
+abbrev pub after_draw : Option (List ℕ) → Result (List ℕ) randoms.Refusal → Around → Around × Answer
+after_draw var (Ok word) w = (with_name_if var word w, Shows word)
+after_draw var (Err refusal) w = (w, Refused (random_refusal refusal))
+
 -- one command, and the answer to its reply; what is around stays
 abbrev pub answering : (c : Command) → (Reply c → Answer) → Around
     → Plan Command Reply (Around × Answer)
@@ -181,6 +198,8 @@ plan_of (RunSession image inputs nonce var) w =
     session_task (course_around w.memory image inputs) image inputs nonce var w
 plan_of (Seed seed) w = answering (command.Provision seed) seed_answer w
 plan_of (Unseal blob var) w = ask (command.Unseal blob) >>= λ reply. Return (after_unseal var reply w)
+plan_of (ReadCounter id) w = answering (command.ReadCounter id) counter_answer w
+plan_of (Draw var) w = ask command.Random >>= λ reply. Return (after_draw var reply w)
 
 -- ---- events
 

@@ -15,7 +15,7 @@ use Rattle.flk_run.specs.declared.tasks.Task.TheVariants as held
 use Rattle.flk_run.specs.Answers.{Answer, Quiet, Done, Counts, Shows, Registers, Ended, Refused}
 use Rattle.flk_run.specs.Events.{task_step}
 use Rattle.flk_run.specs.Parts.{HostParts, platform_with}
-use Rattle.flk_run.specs.Tasks.{Task, Rest, Refuse, Extend, Read, Bind, Show, BindImage, Take, Give, Poke, Peek, Dma, SetRegister, ShowRegisters, Arm, RunSession, Seed, Unseal}
+use Rattle.flk_run.specs.Tasks.{Task, Rest, Refuse, Extend, Read, Bind, Show, BindImage, Take, Give, Poke, Peek, Dma, SetRegister, ShowRegisters, Arm, RunSession, Seed, Unseal, ReadCounter, Draw}
 
 -- the task, with bytes in place of what holds them
 abbrev pub seen_task : HeldTask → Task
@@ -40,6 +40,8 @@ seen_task (held.RunSession session) =
 seen_task (held.Seed seed) = Seed seed.bytes
 seen_task (held.Unseal unseal) =
     Unseal unseal.blob.bytes (option_map (λ bound. bound.name.now) unseal.bound)
+seen_task (held.ReadCounter id) = ReadCounter id
+seen_task (held.Draw bound) = Draw (option_map (λ bound. bound.name.now) bound)
 
 -- the name that a task binds has 1 to 16 bytes
 abbrev pub IsNamed : Task → Type 0
@@ -47,6 +49,7 @@ IsNamed (Bind name value) = IsShortName name
 IsNamed (BindImage name image) = IsShortName name
 IsNamed (RunSession image inputs nonce (Some name)) = IsShortName name
 IsNamed (Unseal blob (Some name)) = IsShortName name
+IsNamed (Draw (Some name)) = IsShortName name
 IsNamed _ = Unit {0}
 
 -- there is room for the outputs of a session, or for what was sealed in a blob, and nothing stands
@@ -56,12 +59,14 @@ pub record IsRoom (room : Bytes) : Type 0 where
   pub enough : LONGEST_OUTPUTS ≤ room.spare
 
 -- a task that runs a session has room for its outputs, and one that unseals a blob for what was sealed
--- in it: for showing them, and for the name that it binds
+-- in it: for showing them, and for the name that it binds; one that draws a random word has room for
+-- the name alone
 abbrev pub HasRoom : HeldTask → Type 0
 HasRoom (held.RunSession session) =
     IsRoom session.outputs × IfSome session.bound (λ bound. IsRoom bound.value)
 HasRoom (held.Unseal unseal) =
     IsRoom unseal.bytes × IfSome unseal.bound (λ bound. IsRoom bound.value)
+HasRoom (held.Draw bound) = IfSome bound (λ bound. IsRoom bound.value)
 HasRoom other = Unit {0}
 
 -- what a task shows has at most 65,536 bytes
@@ -76,6 +81,7 @@ binds (Bind name value) = true
 binds (BindImage name image) = true
 binds (RunSession image inputs nonce (Some name)) = true
 binds (Unseal blob (Some name)) = true
+binds (Draw (Some name)) = true
 binds _ = false
 
 -- a task takes a span

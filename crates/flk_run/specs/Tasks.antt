@@ -1,10 +1,10 @@
 -- What an event comes to once its expressions have their values, which is first.
-use Rattle.std.specs.Prelude.{ℕ, ◌+◌, ◌*◌, ◌==◌, nat_lt, List, length, Option, Some, None, Result, Ok, Err, IsOk, if◌then◌else◌}
+use Rattle.std.specs.Prelude.{ℕ, ◌+◌, ◌*◌, ◌==◌, nat_le, nat_lt, List, length, Option, Some, None, Result, Ok, Err, IsOk, if◌then◌else◌}
 use Rattle.expr_text.specs.Expressions.{Term}
 use Rattle.expr_text.specs.Variables.{Table}
 use Rattle.expr_text.specs.Values.{value_of}
 use Rattle.expr_text.specs.declared.value.TheConstants.{LONGEST_VALUE}
-use Rattle.script_text.specs.Grammar.{Request, Nothing, ExtendBy, ReadOf, LetBe, ShowOf, ImageOf, TakeOf, GiveAt, PokeAt, PeekAt, DmaAt, SetRegOf, RegsOf, ArmAt, SessionOf, SeedOf, UnsealOf}
+use Rattle.script_text.specs.Grammar.{Request, Nothing, ExtendBy, ReadOf, LetBe, ShowOf, ImageOf, TakeOf, GiveAt, PokeAt, PeekAt, DmaAt, SetRegOf, RegsOf, ArmAt, SessionOf, SeedOf, UnsealOf, CounterOf, RandomOf}
 use Rattle.expr_text.specs.declared.value.ExprFault.{ExprFault}
 use Rattle.slb_image.specs.Image.{pack}
 use Rattle.slb_image.specs.Faults.{build_fault}
@@ -12,14 +12,15 @@ use Rattle.slb_image.specs.declared.fault.ImageFault.{ImageFault}
 use Rattle.flk_run.specs.declared.answers.TheConstants.{LINE_ROOM, REGISTER_ROOM, UNSEAL_ROOM, SESSION_ROOM}
 use Rattle.flk_run.specs.declared.tasks.TheConstants.{NONCE_LEN}
 use Rattle.flk_run.specs.declared.answers.Refusal.{Refusal}
-use Rattle.flk_run.specs.declared.answers.Refusal.TheVariants.{NoValue, NoImage, NoLong, NoNonce}
+use Rattle.flk_run.specs.declared.answers.Refusal.TheVariants.{NoValue, NoImage, NoLong, NoNonce, NoCounter}
 
 -- nothing; to answer a refusal; to extend a register by a text; to read one; to bind a name to a
 -- value; to show a value; to bind a name to an image, and to answer how long it is; to take a span of
 -- memory, to give one back, to write bytes into one, to show bytes of one, or to have a device write
 -- bytes; to set a register of the processor, to show all, to arm a device write for a turn of the
--- next session, or to run a session, and to bind a name to its outputs; to give the device a seed, or
--- to unseal a blob, and to bind a name to what was sealed in it
+-- next session, or to run a session, and to bind a name to its outputs; to give the device a seed, to
+-- unseal a blob, and to bind a name to what was sealed in it; to read a counter; or to draw a random
+-- word, and to bind a name to it
 pub data Task : Type 0 where
   Rest : Task
   Refuse : (why : Refusal) → Task
@@ -39,6 +40,8 @@ pub data Task : Type 0 where
   RunSession : (image inputs nonce : List ℕ) → (var : Option (List ℕ)) → Task
   Seed : (seed : List ℕ) → Task
   Unseal : (blob : List ℕ) → (var : Option (List ℕ)) → Task
+  ReadCounter : (id : ℕ) → Task
+  Draw : (var : Option (List ℕ)) → Task
 
 -- the room that is made for the line of a task's answer; nothing has no line
 abbrev pub room : Task → ℕ
@@ -60,6 +63,8 @@ MayAllocate (Read r) = ⊥
 MayAllocate (Give at) = ⊥
 MayAllocate (SetRegister reg n) = ⊥
 MayAllocate ShowRegisters = ⊥
+MayAllocate (ReadCounter id) = ⊥
+MayAllocate (Draw None) = ⊥
 MayAllocate other = Unit {0}
 
 -- the task for a value; the fault of an expression that has none is the answer
@@ -85,6 +90,14 @@ abbrev pub session_or_nonce : List ℕ → List ℕ → List ℕ → Option (Lis
 session_or_nonce image inputs nonce var =
     if length nonce == NONCE_LEN then RunSession image inputs nonce var else Refuse NoNonce
 
+-- the last number that a counter may be asked for by
+abbrev pub last_counter : ℕ
+last_counter = 255
+
+-- to read a counter, where there can be one of this number
+abbrev pub counter_or_none : ℕ → Task
+counter_or_none id = if nat_le id last_counter then ReadCounter id else Refuse NoCounter
+
 -- what a request comes to
 abbrev pub task_of : Request → Table → Task
 task_of Nothing table = Rest
@@ -109,6 +122,8 @@ task_of (SessionOf image inputs nonce var) table =
     value_task nonce table (λ nonce. session_or_nonce image inputs nonce var)))
 task_of (SeedOf seed) table = value_task seed table (λ bytes. Seed bytes)
 task_of (UnsealOf blob var) table = value_task blob table (λ bytes. Unseal bytes var)
+task_of (CounterOf id) table = counter_or_none id
+task_of (RandomOf var) table = Draw var
 
 -- a request may allocate where its task may; that of a session, where its first expression has a value
 abbrev pub MayAllocateFor : Request → Table → Type 0

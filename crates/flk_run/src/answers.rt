@@ -59,8 +59,10 @@ pub enum Refusal {
     NoBlob,
     /// Register 17 has another value than when the blob was sealed.
     NoChain,
-    /// The counter that the blob bears is not in use, or has another value.
+    /// The counter is not in use, or one that a blob bears has another value.
     NoCounter,
+    /// There are no more random words.
+    NoEnd,
     /// The power was lost before the event was done.
     PowerLost,
 }
@@ -286,6 +288,7 @@ fn put_refusal(out: &mut Bytes, number: u32, refusal: Refusal)
         Refusal::NoBlob => put_line(out, number, b"no blob"),
         Refusal::NoChain => put_line(out, number, b"no chain"),
         Refusal::NoCounter => put_line(out, number, b"no counter"),
+        Refusal::NoEnd => put_line(out, number, b"no end"),
         Refusal::PowerLost => put_line(out, number, b"power lost"),
     }
 }

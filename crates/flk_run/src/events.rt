@@ -10,7 +10,7 @@ ghost use Rattle.flk_run.specs.Parts.{platform_with};
 ghost use Rattle.flk_run.specs.Seen.{seen_task, seen_answer, binds, takes, arms, IsNamed, IsRoom, HasRoom, HasShortOutputs, IsShortShown};
 ghost use Rattle.flk_run.specs.Tasks.{room, MayAllocate};
 ghost use Rattle.flk_run.specs.Sessions.{table_after, table_with, shown_in};
-ghost use Rattle.flk_run.specs.declared.answers.TheConstants.{SESSION_ROOM, UNSEAL_ROOM};
+ghost use Rattle.flk_run.specs.declared.answers.TheConstants.{REGISTER_ROOM, SESSION_ROOM, UNSEAL_ROOM};
 ghost use Rattle.flk_run.specs.declared.tasks.Task.TheVariants as HeldTask;
 
 use crate::answers::Answer;
@@ -91,6 +91,8 @@ fn done(host: Host, vars: &mut Vars, task: Task<'_>) -> (Host, Answer)
         Task::RunSession(session) => return run_session(host, vars, session),
         Task::Seed { seed } => return host.seed(seed.as_slice()),
         Task::Unseal(unseal) => return run_unseal(host, vars, unseal),
+        Task::ReadCounter { id } => return host.read_counter(id),
+        Task::Draw(bound) => return run_draw(host, vars, bound),
     }
 }
 
@@ -136,6 +138,26 @@ fn run_unseal(host: Host, vars: &mut Vars, unseal: UnsealTask<'_>) -> (Host, Ans
 {
     let UnsealTask { blob, bytes, bound } = unseal;
     let (host, answer) = host.unseal(blob.as_slice(), bytes);
+    if let Some(Bound { name, value }) = bound {
+        bind_bytes(vars, name, value, &answer);
+    }
+    (host, answer)
+}
+
+// Draws a random word, and binds the name to it, where there is one and a word was drawn.
+fn run_draw(host: Host, vars: &mut Vars, bound: Option<Bound<'_>>) -> (Host, Answer)
+    requires named { IsNamed (seen_task (HeldTask.Draw bound)) }
+    requires room { HasRoom (HeldTask.Draw bound) }
+    requires name { binds (seen_task (HeldTask.Draw bound)) ≡ true → 1 ≤ vars.old.spare }
+    ensures untaken { result.0.untaken ≡ host.untaken }
+    ensures done { host.untaken ≡ true → (disk : DiskView) →
+        (platform_with result.0.armed result.0.board result.0.spans disk vars.new.table, seen_answer result.1)
+        ≡ task_step digests (seen_task (HeldTask.Draw bound.entry))
+        (platform_with host.armed host.board host.spans disk vars.old.table) }
+    ensures fits { room_of (seen_answer result.1) ≤ REGISTER_ROOM }
+    ensures short { HasShortOutputs (seen_answer result.1) }
+{
+    let (host, answer) = host.draw();
     if let Some(Bound { name, value }) = bound {
         bind_bytes(vars, name, value, &answer);
     }

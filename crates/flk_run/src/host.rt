@@ -4,7 +4,7 @@ ghost use Rattle.flk_run.specs.Answers.{room_of};
 ghost use Rattle.flk_run.specs.Seen.{Steps, seen_answer, HasShortOutputs, IsShortShown, IsRoom};
 ghost use Rattle.flk_run.specs.Sessions.{answer_to_end, armed_after};
 ghost use Rattle.slb_core.specs.Reports.{count_of};
-ghost use Rattle.flk_run.specs.Tasks.{Extend, Read, Take, Give, Poke, Peek, Dma as WriteByDevice, SetRegister, ShowRegisters, Arm, RunSession, Seed, Unseal};
+ghost use Rattle.flk_run.specs.Tasks.{Extend, Read, Take, Give, Poke, Peek, Dma as WriteByDevice, SetRegister, ShowRegisters, Arm, RunSession, Seed, Unseal, ReadCounter, Draw};
 
 use crate::answers::{
     Answer, LINE_ROOM, LONGEST_OUTPUTS, REGISTER_ROOM, Refusal, SESSION_ROOM, SessionOver,
@@ -17,7 +17,9 @@ use i386_profile::Cpu;
 use late_launch::{Board, End};
 use machine_memory::{DevEnd, Dma, Memory, frame_law};
 use region_pool::Ticket;
-use seal_device::{LONGEST_SEALED, Provisioned, RegisterFault, UnsealFault};
+use seal_device::{
+    CounterFault, LONGEST_SEALED, Provisioned, RandomFault, RegisterFault, UnsealFault,
+};
 use session_driver::{SessionEnd, session};
 use std::alloc::Global;
 use std::marker::Model;
@@ -183,6 +185,37 @@ impl Host {
             Err(UnsealFault::NotBlob) => return (host, Answer::Refused(Refusal::NoBlob)),
             Err(UnsealFault::WrongChain) => return (host, Answer::Refused(Refusal::NoChain)),
             Err(UnsealFault::WrongCounter) => return (host, Answer::Refused(Refusal::NoCounter)),
+        }
+    }
+
+    /// The value of counter `id`.
+    pub(crate) fn read_counter(self, id: u8) -> (Host, Answer)
+        ensures untaken { result.0.untaken ≡ self.untaken }
+        ensures steps { self.untaken ≡ true → Steps (ReadCounter id) self result.0 result.1 }
+        ensures fits { room_of (seen_answer result.1) ≤ REGISTER_ROOM }
+    {
+        let mut host = self;
+        match host.board.read_counter(id) {
+            Ok(value) => return (host, Answer::Counts(value as usize)),
+            Err(CounterFault::PowerLost) => return host.power_lost(),
+            // A counter that is read needs no owner and no next value.
+            Err(_) => return (host, Answer::Refused(Refusal::NoCounter)),
+        }
+    }
+
+    /// The next random word.
+    pub(crate) fn draw(self) -> (Host, Answer)
+        ensures untaken { result.0.untaken ≡ self.untaken }
+        ensures steps { self.untaken ≡ true → Steps (Draw None) self result.0 result.1 }
+        ensures fits { room_of (seen_answer result.1) ≤ REGISTER_ROOM }
+        ensures short { IsShortShown (seen_answer result.1) }
+    {
+        let mut host = self;
+        match host.board.random() {
+            Ok(word) => return (host, Answer::Register(word)),
+            Err(RandomFault::PowerLost) => return host.power_lost(),
+            Err(RandomFault::Unprovisioned) => return (host, Answer::Refused(Refusal::NoSeed)),
+            Err(RandomFault::RandomEnd) => return (host, Answer::Refused(Refusal::NoEnd)),
         }
     }
 

@@ -1,11 +1,11 @@
 // What an event comes to once its expressions have their values.
-ghost use Rattle.std.specs.Prelude.{◌≡◌, ◌≤◌, length, replicate, IfOk, IsOk, IsErr, MatchResult, Ok, Err};
+ghost use Rattle.std.specs.Prelude.{◌≡◌, ◌≤◌, length, replicate, IfOk, IsOk, IsErr, IsSome, MatchResult, Ok, Err};
 ghost use Rattle.std.specs.Option.{option_map, IfSome};
 ghost use Rattle.expr_text.specs.Values.{value_of};
 ghost use Rattle.script_text.specs.Seen.{request_of, HasShortName};
 ghost use Rattle.slb_image.specs.Faults.{build_fault};
 ghost use Rattle.slb_image.specs.Image.{pack};
-ghost use Rattle.flk_run.specs.Tasks.{Extend, Bind, Show, Poke, Dma, Arm, Seed, Unseal, value_task, image_or_fault, peek_or_long, session_or_nonce, room, task_of, MayAllocateFor};
+ghost use Rattle.flk_run.specs.Tasks.{Extend, Bind, Show, Poke, Dma, Arm, Seed, Unseal, Draw, value_task, image_or_fault, peek_or_long, session_or_nonce, counter_or_none, room, task_of, MayAllocateFor};
 ghost use Rattle.flk_run.specs.Seen.{seen_task, binds, takes, IsNamed, IsShown, IsRoom, HasRoom};
 
 use crate::answers::{
@@ -83,6 +83,10 @@ pub(crate) enum Task<'e> {
     Seed { seed: Bytes },
     /// To unseal a blob.
     Unseal(UnsealTask<'e>),
+    /// To read a counter.
+    ReadCounter { id: u8 },
+    /// To draw a random word, and to bind a name to it, where there is one.
+    Draw(Option<Bound<'e>>),
 }
 
 // What an expression is worth: its value, or why it has none; neither where memory ran out.
@@ -265,6 +269,7 @@ fn bound_of<'e>(alloc: Global, var: &'e Option<Bytes>) -> Result<Option<Bound<'e
     ensures name { IfOk result (λ bound. option_map (λ b. b.name.now) bound
         ≡ option_map (λ name. name.bytes) var.now) }
     ensures room { IfOk result (λ bound. IfSome bound (λ b. IsRoom b.value)) }
+    ensures memory { IsErr result → IsSome var.now }
 {
     match var {
         None => return Ok(None),
@@ -338,6 +343,30 @@ fn unseal_task<'e>(
     match worth(alloc, blob, vars)? {
         Ok(blob) => return unseal_of(alloc, blob, var),
         Err(fault) => return Ok(Task::Refuse(Refusal::NoValue(fault))),
+    }
+}
+
+// To read a counter, where there can be one of this number.
+fn counter_task(id: u32) -> Task<'static>
+    ensures { seen_task result ≡ counter_or_none id }
+{
+    if id <= u32::from(u8::MAX) {
+        Task::ReadCounter { id: id as u8 }
+    } else {
+        Task::Refuse(Refusal::NoCounter)
+    }
+}
+
+// To draw a random word, with room for the name's value.
+fn draw_task<'e>(alloc: Global, var: &'e Option<Bytes>) -> Result<Task<'e>, NoMemory>
+    ensures task { IfOk result (λ task. seen_task task
+        ≡ Draw (option_map (λ name. name.bytes) var.now)) }
+    ensures room { IfOk result HasRoom }
+    ensures memory { IsErr result → IsSome var.now }
+{
+    match bound_of(alloc, var) {
+        Ok(bound) => return Ok(Task::Draw(bound)),
+        Err(NoMemory) => return Err(NoMemory),
     }
 }
 
@@ -423,6 +452,8 @@ pub(crate) fn task_of<'e>(
         } => return session_task(alloc, image, inputs, nonce, var, vars),
         Event::Seed { seed } => return seed_task(alloc, seed, vars),
         Event::Unseal { blob, var } => return unseal_task(alloc, blob, var, vars),
+        Event::Counter { id } => return Ok(counter_task(*id)),
+        Event::Random { var } => return draw_task(alloc, var),
     }
 }
 
@@ -450,6 +481,7 @@ impl Task<'_> {
             Task::Bind { .. } | Task::BindImage { .. } => true,
             Task::RunSession(session) => session.bound.is_some(),
             Task::Unseal(unseal) => unseal.bound.is_some(),
+            Task::Draw(bound) => bound.is_some(),
             _ => false,
         }
     }

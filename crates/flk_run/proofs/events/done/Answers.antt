@@ -65,3 +65,10 @@ returns-in-Seed-clause-done c =
 
 pub returns-in-Unseal-clause-done : goal.returns-in-Unseal-clause-done
 returns-in-Unseal-clause-done c = rw c.in-Unseal.is c.run_unseal.ensures.done
+
+pub returns-in-ReadCounter-clause-done : goal.returns-in-ReadCounter-clause-done
+returns-in-ReadCounter-clause-done c =
+    rw c.in-ReadCounter.is (λ untaken disk. c.read_counter.ensures.steps untaken disk c.args.vars.now.table)
+
+pub returns-in-Draw-clause-done : goal.returns-in-Draw-clause-done
+returns-in-Draw-clause-done c = rw c.in-Draw.is c.run_draw.ensures.done

@@ -1,6 +1,6 @@
 use Rattle.std.proofs.Common.{ap, sym, ◌∙◌, Some}
 use Rattle.flk_run.specs.Parts.{platform_with}
-use Rattle.flk_run.proofs.UnsealLemmas.{shown_too, unseal_binds}
+use Rattle.flk_run.proofs.BindingLemmas.{shown_too, unseal_binds}
 use Rattle.flk_run.proofs.events.run_unseal.Goals.{in-Some, in_default}
 use Rattle.flk_run.proofs.events.run_unseal.Goals as goal
 
