@@ -1,5 +1,5 @@
 -- What a platform of lists has to do with one of digests.
-use Rattle.std.specs.Prelude.{◌≡◌, ℕ, Bool, true, false, List, Option, Some}
+use Rattle.std.specs.Prelude.{◌≡◌, Bool, true, false, List, Option, Some}
 use Rattle.flk_base.specs.Plan.{Plan, Throughout}
 use Rattle.seal_device.specs.Commands.{Command, Reply, act, compares}
 use Rattle.seal_device.specs.Digests.{DigestDevice, digests as by_digests}

@@ -1,5 +1,5 @@
 -- A turn whose instruction calls a gate.
-use Rattle.std.proofs.Common.{◌≡◌, ℕ, List, sym, subst, Result}
+use Rattle.std.proofs.Common.{◌≡◌, ℕ, List, subst, Result}
 use Rattle.flk_base.specs.declared.fuse.PowerLost.{PowerLost}
 use Rattle.i386_profile.specs.declared.cpu.Cpu.{Cpu}
 use Rattle.i386_profile.specs.declared.cpu.Step.{Step}
