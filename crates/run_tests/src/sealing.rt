@@ -180,8 +180,17 @@ const SPANS: &[Row] = &[
         "session g x:04000000ffff0000020000000000000008f00000 n",
         "ok fault 2 turns 6 dma 0 0 0 x:",
     ),
+    // The span of a random word is looked at before the device; there is no service 9.
     (
-        "session g x:0500000000000000000000000000000008f00000 n",
+        "session g x:08000000000000000000000000000000ecff0000 n",
+        "ok done turns 11 dma 0 0 0 x:0000000000000000",
+    ),
+    (
+        "session g x:08000000000000000000000000000000edff0000 n",
+        "ok fault 2 turns 6 dma 0 0 0 x:",
+    ),
+    (
+        "session g x:0900000000000000000000000000000008f00000 n",
         "ok fault 1 turns 6 dma 0 0 0 x:",
     ),
 ];
