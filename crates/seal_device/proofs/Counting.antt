@@ -1,13 +1,9 @@
 -- The device's errors for those of its counters.
-use Rattle.std.proofs.Common.{◌≡◌, ℕ, refl, sym, ap, ◌∙◌}
+use Rattle.std.proofs.Common.{◌≡◌, ℕ, ap}
 use Rattle.std.specs.Prelude.{Result, Ok, Err, Some}
 use Rattle.flk_base.specs.Stop.{reported}
-use Rattle.tpm_state.specs.Refusals.Create as creates
-use Rattle.tpm_state.specs.Refusals.ReadCounter as reads
-use Rattle.tpm_state.specs.Refusals.Increment as increments
 use Rattle.tpm_state.specs.CounterFaults as tpm
 use Rattle.tpm_state.specs.declared.counters.CounterFault.{CounterFault as BankFault}
-use Rattle.seal_device.specs.Faults.{create_fault, read_fault, increment_fault}
 use Rattle.seal_device.specs.declared.faults.CounterFault.{CounterFault}
 use Rattle.seal_device.specs.declared.faults.CounterFault.TheVariants as counter_faults
 

@@ -27,7 +27,7 @@ pub record AfterEach {H M : Type 0} (R : Rules H M) (c : Command) (d : Device H 
     pub extended : (r : ℕ) (text : List ℕ) (chain : H) → slice_get d.chains r ≡ Some chain →
         P (with_chain d r (R.extended chain text))
     pub sealed : (bytes : List ℕ) (counter : Option ℕ) (ahead : Bool) (borne : Option Bearing) →
-        seal_bearing d.serial d.counters bytes counter ahead ≡ Ok borne →
+        c ≡ Seal bytes counter ahead → seal_bearing d.serial d.counters bytes counter ahead ≡ Ok borne →
         P (with_record R (new_record R bytes borne d) d)
     pub created : c ≡ NewCounter →
         P (record d { counters = (create (present_chain R d) d.counters).0 })
@@ -62,7 +62,7 @@ after_each R (Seal bytes counter ahead) d P each =
       by_borne : (keys : Keys) (o : Result (Option Bearing) seals.Refusal) →
           seal_bearing d.serial d.counters bytes counter ahead ≡ o →
           P (seal_with R bytes d keys o).0
-      by_borne keys (Ok borne) is = each.sealed bytes counter ahead borne is
+      by_borne keys (Ok borne) is = each.sealed bytes counter ahead borne refl is
       by_borne keys (Err refusal) is = each.nothing
 after_each R (Unseal bytes) d P each =
     with_keys_ends P unseals.Unprovisioned d (unseal R bytes d) d.keys each.nothing
@@ -96,7 +96,7 @@ counters_after {H} {M} R c d P nothing created incremented =
       seeded = λ keys none. nothing;
       measured = λ image. nothing;
       extended = λ r text chain there. nothing;
-      sealed = λ bytes counter ahead borne ok. nothing;
+      sealed = λ bytes counter ahead borne one ok. nothing;
       created = created;
       incremented = incremented;
       drawn = λ one less. nothing;

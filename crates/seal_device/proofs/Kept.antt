@@ -1,16 +1,16 @@
 -- A record that was sealed stays on a device of lists, and its blob opens to it.
-use Rattle.std.proofs.Common.{◌≡◌, ◌≢◌, ℕ, ◌<◌, List, [], ◌∷◌, map, get_or, inl, inr, Bool, true}
+use Rattle.std.proofs.Common.{◌≡◌, ◌≢◌, ℕ, List, [], ◌∷◌, map, get_or, inl, inr, Bool, true}
 use Rattle.std.proofs.Common.{false, Option, Some, None, refl, sym, ap, ◌∙◌, subst, arith, Contains}
 use Rattle.std.specs.Prelude.{IfSome, Result, Ok, Err, if◌then◌else◌}
 use Rattle.std.specs.Option.{ok_or}
 use Rattle.std.proofs.lemmas.List.{length-map, get_or-map, get_or_default}
-use Rattle.std.proofs.lemmas.Bool.{cases_lt, eqb-true, ne_eqb}
+use Rattle.std.proofs.lemmas.Bool.{cases_lt, eqb-true}
 use Rattle.std.proofs.lemmas.List.Elements.{All-contains, Contains-append_left, Contains-push}
 use Rattle.flk_base.specs.Plan.{Plan, run}
 use Rattle.flk_base.specs.PlanLaws.{plans_keep}
 use Rattle.flk_base.specs.Stop.{limited, Fused, fused}
 use Rattle.tpm_state.specs.Chain.{Chain, value}
-use Rattle.tpm_state.specs.Counters.{Counter, Counters, counter_at, read, value_or_refused, Grew}
+use Rattle.tpm_state.specs.Counters.{Counter, Counters, counter_at}
 use Rattle.seal_device.specs.Keys.{Keys}
 use Rattle.seal_device.specs.Sealed.{Bearing, Sealed, InRange, with_chain_by}
 use Rattle.seal_device.specs.Blobs.{parsed}
@@ -41,7 +41,7 @@ record_stays c d r there =
       seeded = λ keys none. there;
       measured = λ image. there;
       extended = λ n text chain at. there;
-      sealed = λ bytes counter ahead borne ok.
+      sealed = λ bytes counter ahead borne one ok.
           Contains-append_left d.made (new_record lists bytes borne d ∷ []) r there;
       created = λ one. there;
       incremented = λ id one. there;
@@ -361,29 +361,6 @@ given_elsewhere d bytes counter ahead blob later given other =
           let end : ListDevice × Result ℕ unseals.Refusal = (later, reply) in end)
           (in_other later (λ r. awaited later.counters r.counter) r elsewhere),
     )
-
--- ---- a value that a counter has passed
-
--- the counter that was read has this value
-read_is : {H : Type 0} (c : Counters H) (id value : ℕ) → read id c ≡ Ok value →
-    (counter : Counter H) × (counter_at c id ≡ Some counter) × (counter.value ≡ value)
-read_is {H} c id value is = by_slot (counter_at c id) refl is where
-  by_slot : (o : Option (Counter H)) → counter_at c id ≡ o → value_or_refused o ≡ Ok value →
-      (counter : Counter H) × (counter_at c id ≡ Some counter) × (counter.value ≡ value)
-  by_slot None at is = absurd (cc)
-  by_slot (Some counter) at is = (counter, at, (let one : counter.value ≡ value = cc in one))
-
--- a value that a counter has passed does not stand, however the counters grew
-pub passed_for_good : {H : Type 0} (before after : Counters H) (b : Bearing) (value : ℕ) →
-    Grew before after → read b.id before ≡ Ok value → b.value < value →
-    counter_stands after (Some b) ≡ false
-passed_for_good before after b value grew is above =
-    let was = read_is before b.id value is in
-    let stays = grew.stay b.id was.0 was.1 in
-    let more = stays.value in
-    let one = was.2 in
-    ap (has_value b.value) stays.in_use
-    ∙ ne_eqb stays.now.value b.value (λ same. absurd (omega arith))
 
 -- ---- what opens
 

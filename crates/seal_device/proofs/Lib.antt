@@ -17,3 +17,4 @@ pub mod BlobLaws
 pub mod Openings
 pub mod Serials
 pub mod Kept
+pub mod Passing

@@ -10,7 +10,6 @@ use Rattle.seal_device.specs.Sealing.{present_chain, seal, seal_bearing, seal_wi
 use Rattle.seal_device.specs.Digests.{DigestDevice, digests}
 use Rattle.seal_device.specs.Faults.{seal_fault}
 use Rattle.seal_device.specs.Refusals.Seal as seals
-use Rattle.seal_device.specs.declared.faults.SealFault.{SealFault}
 use Rattle.seal_device.specs.declared.faults.SealFault.TheVariants as seal_faults
 
 -- where the code finds what the record bears, there is no refusal

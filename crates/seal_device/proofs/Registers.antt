@@ -28,7 +28,7 @@ count_kept {H} {M} R c d count =
           length-set d.chains launch_register (R.extended (R.start launch_start) image) ∙ count;
       extended = λ r text chain there.
           length-set d.chains r (R.extended chain text) ∙ count;
-      sealed = λ bytes counter ahead borne ok. count;
+      sealed = λ bytes counter ahead borne one ok. count;
       created = λ one. count;
       incremented = λ id one. count;
       drawn = λ one less. count;

@@ -1,8 +1,9 @@
 -- What commands do to the keys, to the serial and to the count of random words, by any rules.
-use Rattle.std.proofs.Common.{◌≡◌, ◌≢◌, ℕ, ◌<◌, ◌≤◌, ◌^◌, Some, None, refl, sym, ◌∙◌, arith}
+use Rattle.std.proofs.Common.{◌≡◌, ◌≢◌, ℕ, ◌<◌, ◌≤◌, ◌^◌, Bool, List, Option, Some, None, refl, sym}
+use Rattle.std.proofs.Common.{◌∙◌, arith}
 use Rattle.seal_device.specs.Keys.{Keys}
 use Rattle.seal_device.specs.Rules.{Device, Rules}
-use Rattle.seal_device.specs.Commands.{Command, Random, act}
+use Rattle.seal_device.specs.Commands.{Command, Seal, Random, act}
 use Rattle.seal_device.proofs.Sealable.{sealable}
 use Rattle.seal_device.proofs.Effects.{after_each}
 
@@ -15,7 +16,7 @@ keys_stay {H} {M} R c d keys is =
       seeded = λ others none. absurd (let clash : None ≡ Some keys = sym none ∙ is in cc);
       measured = λ image. is;
       extended = λ r text chain there. is;
-      sealed = λ bytes counter ahead borne ok. is;
+      sealed = λ bytes counter ahead borne one ok. is;
       created = λ one. is;
       incremented = λ id one. is;
       drawn = λ one less. is;
@@ -36,7 +37,7 @@ serial_stays {H} {M} R c d low =
       seeded = λ others none. same;
       measured = λ image. same;
       extended = λ r text chain there. same;
-      sealed = λ bytes counter ahead borne ok.
+      sealed = λ bytes counter ahead borne one ok.
           let told = sealable d.serial d.counters bytes counter ahead borne ok in
           let free = told.free in
           (omega arith, omega arith);
@@ -44,6 +45,23 @@ serial_stays {H} {M} R c d low =
       incremented = λ id one. same;
       drawn = λ one less. same;
       powered = same;
+    })
+
+-- no command but a sealing changes the serial
+pub serial_stands : {H M : Type 0} (R : Rules H M) (c : Command) (d : Device H M) →
+    ((bytes : List ℕ) (counter : Option ℕ) (ahead : Bool) → c ≢ Seal bytes counter ahead) →
+    (act R c d).0.serial ≡ d.serial
+serial_stands {H} {M} R c d other =
+    after_each R c d (λ (e : Device H M). e.serial ≡ d.serial) (record {
+      nothing = refl;
+      seeded = λ others none. refl;
+      measured = λ image. refl;
+      extended = λ r text chain there. refl;
+      sealed = λ bytes counter ahead borne one ok. absurd (other bytes counter ahead one);
+      created = λ one. refl;
+      incremented = λ id one. refl;
+      drawn = λ one less. refl;
+      powered = refl;
     })
 
 -- no command but one draws a word
@@ -55,7 +73,7 @@ words_stay {H} {M} R c d other =
       seeded = λ others none. refl;
       measured = λ image. refl;
       extended = λ r text chain there. refl;
-      sealed = λ bytes counter ahead borne ok. refl;
+      sealed = λ bytes counter ahead borne one ok. refl;
       created = λ one. refl;
       incremented = λ id one. refl;
       drawn = λ one less. absurd (other one);

@@ -1,4 +1,5 @@
-// The counter that a record bears: with which value it is sealed, and when the counter has come to it.
+// The counter that a record bears: with which value it is sealed, and when the counter has come to
+// that value.
 ghost use Rattle.std.specs.Prelude.{◌≡◌, ◌≤◌, ◌<◌, length, Some, OnOk};
 ghost use Rattle.std.specs.Option.{option_map};
 ghost use Rattle.tpm_state.specs.Counters.{counter_at};

@@ -1,7 +1,7 @@
 // Laws of blobs and of what they open to. Each function does nothing: its clauses are laws, which
 // are proved because they stand here.
-ghost use Rattle.std.specs.Prelude.{◌≡◌, ◌≢◌, ◌↔◌, ◌<◌, List, ℕ, Bool, length, Option, Some, Ok};
-ghost use Rattle.std.specs.Prelude.{Err, IsTrue, Contains, if◌then◌else◌};
+ghost use Rattle.std.specs.Prelude.{◌≡◌, ◌≢◌, ◌↔◌, ◌<◌, ◌≤◌, List, ℕ, Bool, length, Option, Some};
+ghost use Rattle.std.specs.Prelude.{Ok, Err, IsTrue, Contains, if◌then◌else◌};
 ghost use Rattle.std.specs.Option.{ok_or};
 ghost use Rattle.flk_base.specs.Plan.{Plan};
 ghost use Rattle.flk_base.specs.Stop.{Limit, with_fuse, fused};
@@ -37,8 +37,10 @@ pub fn blob_law()
 /// which it stood then, the blob is refused for that. In that chain it opens to these bytes where
 /// the counter that it bears, if it bears one, has the value that it bears; where it has another,
 /// it is refused for that. It is tried for the next value of its counter in the same way. Once the
-/// counter has passed the value, the blob never opens again. Bytes that are no blob of a record
-/// that the device keeps are no blob to it. And what opens is such a record.
+/// counter has passed the value, the blob never opens again, whatever is done and in whatever
+/// chain, and is never again the next one; once the counter has reached it, the blob is never again
+/// the next one. Bytes that are no blob of a record that the device keeps are no blob to it. And
+/// what opens is such a record.
 pub fn opening_law<X>()
     ensures opens { (d : ListDevice) (ledger : Ledger) (bytes : List ℕ) (counter : Option ℕ)
         (ahead : Bool) (blob : List ℕ) (borne : Option Bearing) (plan : Plan Command Reply X)
@@ -79,8 +81,18 @@ pub fn opening_law<X>()
         let between = (fused costs (act lists) plan (with_fuse sealed fuse)).0.state in
         let later = (fused costs (act lists) more (with_fuse between fuse')).0.state in
         read b.id between.counters ≡ Ok value → b.value < value →
-        present_chain lists later ≡ present_chain lists d →
-        act lists (Command.Unseal blob) later ≡ (later, Err unseals.WrongCounter) }
+        ((content : List ℕ) → (act lists (Command.Unseal blob) later).1 ≢ Ok content)
+        × ((id : ℕ) → (act lists (Command.CheckNext blob) later).1 ≢ Ok id) }
+    ensures reached { (d : ListDevice) (ledger : Ledger) (bytes : List ℕ) (counter : Option ℕ)
+        (ahead : Bool) (blob : List ℕ) (b : Bearing) (value : ℕ)
+        (plan more : Plan Command Reply X) (fuse fuse' : Limit) →
+        Noted d ledger → (act lists (Command.Seal bytes counter ahead) d).1 ≡ Ok blob →
+        bearing d.counters counter ahead ≡ Ok (Some b) →
+        let sealed = (act lists (Command.Seal bytes counter ahead) d).0 in
+        let between = (fused costs (act lists) plan (with_fuse sealed fuse)).0.state in
+        let later = (fused costs (act lists) more (with_fuse between fuse')).0.state in
+        read b.id between.counters ≡ Ok value → b.value ≤ value →
+        (id : ℕ) → (act lists (Command.CheckNext blob) later).1 ≢ Ok id }
     ensures not_blob { (d : ListDevice) (keys : Keys) (bytes : List ℕ) → d.keys ≡ Some keys →
         ((r : Sealed Chain) → Contains d.made r → blob_of keys r ≢ bytes) →
         (act lists (Command.Unseal bytes) d ≡ (d, Err unseals.NotBlob))

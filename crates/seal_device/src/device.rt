@@ -11,9 +11,9 @@ ghost use Rattle.seal_device.specs.Blobs.{blob_size};
 ghost use Rattle.seal_device.specs.Sealing.{present_chain, last_serial, seal, unseal, check_next};
 ghost use Rattle.seal_device.specs.Commands.{Command, act, blank};
 ghost use Rattle.seal_device.specs.Digests.{digests, on_device};
-ghost use Rattle.seal_device.specs.Faults.{power_lost, register_fault, provision_answer, seal_fault};
-ghost use Rattle.seal_device.specs.Faults.{unseal_fault, create_fault, read_fault, increment_fault};
-ghost use Rattle.seal_device.specs.Faults.{random_fault};
+ghost use Rattle.seal_device.specs.Faults.{power_lost, register_fault, provision_answer};
+ghost use Rattle.seal_device.specs.Faults.{seal_fault, unseal_fault, create_fault, read_fault};
+ghost use Rattle.seal_device.specs.Faults.{increment_fault, random_fault};
 
 use crate::bearings::{awaited, bearing_to_seal, is_standing};
 use crate::blobs::{
@@ -203,9 +203,10 @@ impl Device {
         }
     }
 
-    /// Tries a blob for the next value of the counter that it bears, in register 17's present value,
-    /// and gives the counter's number: as an unseal, but the blob's value has to be one above the
-    /// counter's. It shows nothing and changes nothing but the fuse.
+    /// Tries a blob for the next value of the counter that it bears, in register 17's present
+    /// value, and gives the counter's number: as an unseal, but the blob has to bear a counter, and
+    /// its value has to be one above the counter's. It shows nothing and changes nothing but the
+    /// fuse.
     pub fn check_next(&self, blob: &[u8], fuse: &mut Fuse) -> Result<u8, UnsealFault>
         ensures { Ends (reported unseal_fault UnsealFault.PowerLost)
             (on_device (ask (Command.CheckNext blob.now)) (with_fuse self.now fuse.old.left))
@@ -316,8 +317,9 @@ impl Device {
     ) -> Result<usize, SealFault>
         ensures sealed { (result, out.new) ≡ reported_into out.old seal_fault SealFault.PowerLost
             (Some (seal digests bytes.now counter ahead self.now keys.now).1) }
-        ensures device { (seal digests bytes.now counter ahead self.now keys.now).0
-            ≡ (if is_ok result then record self.now { serial = self.now.serial + 1 } else self.now) }
+        ensures device { (seal digests bytes.now counter ahead self.now keys.now).0 ≡ (if is_ok result
+            then record self.now { serial = self.now.serial + 1 }
+            else self.now) }
         ensures next { OnOk result (self.now.serial < last_serial) }
         ensures size { IfOk result (λ size. size ≡ blob_size (length bytes.now)) }
     {

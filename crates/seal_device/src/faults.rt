@@ -31,8 +31,8 @@ pub enum SealFault {
     PowerLost = 5,
 }
 
-/// Why a blob was not unsealed, or not tried for the next value of its counter, with the number of the fault. After lost power the order of trial
-/// is that of the list.
+/// Why a blob was not unsealed, or has not the next value of its counter, with the number of the
+/// fault. After lost power the order of trial is that of the list.
 #[derive(Clone, Copy, Debug, PartialEq, Eq)]
 pub enum UnsealFault {
     /// The device has no seed.

@@ -153,8 +153,8 @@ pub fn commands_by_registers<H, M>()
 /// What commands do to the keys, to the serial and to the count of random words, by the rules of
 /// any platform. The keys of a seed come once, and then stay. Without them nothing is sealed,
 /// unsealed, tried or drawn. What is sealed gets the serial, and the next one is one more: it never
-/// falls, and stays below 2^64; what is refused changes nothing. So it is with the number of the
-/// next random word, and no other command draws one.
+/// falls, and stays below 2^64; what is refused changes nothing, and no other command changes the
+/// serial. So it is with the number of the next random word, and no other command draws one.
 pub fn commands_by_keys<H, M>()
     ensures provision { (R : Rules H M) (seed : List ℕ) (d : Device H M) → d.keys ≡ None →
         act R (Command.Provision seed) d ≡ (record d { keys = Some (keys_of seed) }, Ok tt) }
@@ -187,6 +187,9 @@ pub fn commands_by_keys<H, M>()
         d.drawn ≡ last_word → act R Command.Random d ≡ (d, Err randoms.RandomEnd) }
     ensures words { (R : Rules H M) (c : Command) (d : Device H M) → c ≢ Command.Random →
         (act R c d).0.drawn ≡ d.drawn }
+    ensures serials { (R : Rules H M) (c : Command) (d : Device H M) →
+        ((bytes : List ℕ) (counter : Option ℕ) (ahead : Bool) →
+        c ≢ Command.Seal bytes counter ahead) → (act R c d).0.serial ≡ d.serial }
 {}
 
 /// What commands do to the counters, by the rules of any platform. They stay in their ranges; each

@@ -1,12 +1,11 @@
-use Rattle.std.proofs.Common.{◌≡◌, ℕ, List, Bool, true, Some, subst, ap, ◌∙◌}
-use Rattle.std.specs.Prelude.{Result, Ok, Err, if◌then◌else◌}
+use Rattle.std.proofs.Common.{◌≡◌, true, Some, subst, arith}
 use Rattle.flk_base.specs.Stop.{with_fuse, fused}
 use Rattle.seal_device.specs.Commands.{Seal, act, costs}
-use Rattle.seal_device.specs.Lists.{ListDevice, lists, same_chain}
-use Rattle.seal_device.specs.Refusals.Unseal as unseals
+use Rattle.seal_device.specs.Lists.{lists, same_chain}
 use Rattle.seal_device.proofs.Growth.{grow_over_plans}
 use Rattle.seal_device.proofs.Kept.{given_now, given_later, given_opens, given_tried}
-use Rattle.seal_device.proofs.Kept.{given_elsewhere, passed_for_good, no_blob, what_opened}
+use Rattle.seal_device.proofs.Kept.{given_elsewhere, no_blob, what_opened}
+use Rattle.seal_device.proofs.Passing.{passed_for_good, reached_for_good, opens_nowhere, next_nowhere}
 use Rattle.seal_device.proofs.Openings.{same_chain_is, chain_itself}
 use Rattle.seal_device.proofs.blob_laws.opening_law.Goals as goal
 
@@ -36,19 +35,34 @@ returns-clause-wrong_chain g c = λ d ledger bytes counter ahead blob plan fuse 
 
 pub returns-clause-passed : goal.returns-clause-passed
 returns-clause-passed g c =
-    λ d ledger bytes counter ahead blob b value plan more fuse fuse' noted ok is at above same.
+    λ d ledger bytes counter ahead blob b value plan more fuse fuse' noted ok is at above.
     let before = with_fuse (act lists (Seal bytes counter ahead) d).0 fuse in
     let between = (fused costs (act lists) plan before).0.state in
-    let later = (fused costs (act lists) more (with_fuse between fuse')).0.state in
-    let given = given_later d bytes counter ahead blob more (with_fuse between fuse')
+    let after = with_fuse between fuse' in
+    let later = (fused costs (act lists) more after).0.state in
+    let given = given_later d bytes counter ahead blob more after
     (given_later d bytes counter ahead blob plan before
     (given_now d ledger bytes counter ahead blob noted ok)) in
-    given_opens d bytes counter ahead blob later (Some b) given is same
-    ∙ ap (λ (stands : Bool).
-    let end : ListDevice × Result (List ℕ) unseals.Refusal =
-    (later, (if stands then Ok bytes else Err unseals.WrongCounter)) in end)
-    (passed_for_good between.counters later.counters b value
-    (grow_over_plans lists more (with_fuse between fuse')) at above)
+    let grew = grow_over_plans lists more after in (
+      opens_nowhere d bytes counter ahead blob later (Some b) given is
+          (passed_for_good between.counters later.counters b value grew at above),
+      next_nowhere d bytes counter ahead blob later (Some b) given is
+          (reached_for_good between.counters later.counters b value grew at (omega arith)),
+    )
+
+pub returns-clause-reached : goal.returns-clause-reached
+returns-clause-reached g c =
+    λ d ledger bytes counter ahead blob b value plan more fuse fuse' noted ok is at there.
+    let before = with_fuse (act lists (Seal bytes counter ahead) d).0 fuse in
+    let between = (fused costs (act lists) plan before).0.state in
+    let after = with_fuse between fuse' in
+    let later = (fused costs (act lists) more after).0.state in
+    let given = given_later d bytes counter ahead blob more after
+    (given_later d bytes counter ahead blob plan before
+    (given_now d ledger bytes counter ahead blob noted ok)) in
+    next_nowhere d bytes counter ahead blob later (Some b) given is
+    (reached_for_good between.counters later.counters b value (grow_over_plans lists more after) at
+    there)
 
 pub returns-clause-not_blob : goal.returns-clause-not_blob
 returns-clause-not_blob g c = λ d keys bytes is other. no_blob d keys bytes is other
