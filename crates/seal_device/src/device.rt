@@ -317,7 +317,8 @@ impl Device {
     ) -> Result<usize, SealFault>
         ensures sealed { (result, out.new) ≡ reported_into out.old seal_fault SealFault.PowerLost
             (Some (seal digests bytes.now counter ahead self.now keys.now).1) }
-        ensures device { (seal digests bytes.now counter ahead self.now keys.now).0 ≡ (if is_ok result
+        ensures device { (seal digests bytes.now counter ahead self.now keys.now).0
+            ≡ (if is_ok result
             then record self.now { serial = self.now.serial + 1 }
             else self.now) }
         ensures next { OnOk result (self.now.serial < last_serial) }
