@@ -10,9 +10,9 @@ use seal_device::{
 };
 use sha1::Sha1;
 
-const SEED: [u8; 20] = [0x5a; 20];
+pub(crate) const SEED: [u8; 20] = [0x5a; 20];
 
-const IMAGE: [u8; 6] = [0x06, 0x00, 0x04, 0x00, 0xf4, 0xc3];
+pub(crate) const IMAGE: [u8; 6] = [0x06, 0x00, 0x04, 0x00, 0xf4, 0xc3];
 
 // Register 17 once the image was measured, and at power-on.
 const LAUNCHED: &[u8; 20] =
@@ -42,10 +42,10 @@ const HELLO: &[u8; 64] =
       \x05\x80\xc5\xb7\x21\x96\x82\xee\x78\x9c\xe4\xf6\x3e\x54\x1f\x8f\x13\x4f";
 
 // What stands in a buffer before a call.
-const BEFORE: u8 = 0x77;
+pub(crate) const BEFORE: u8 = 0x77;
 
 // A device that has this seed, and measured the image.
-fn launched(seed: &[u8]) -> Device {
+pub(crate) fn launched(seed: &[u8]) -> Device {
     let mut device = Device::blank();
     let _ = device.provision(seed);
     let _ = device.measure(&IMAGE, &mut Fuse { left: None });
@@ -53,7 +53,7 @@ fn launched(seed: &[u8]) -> Device {
 }
 
 // Whether all of these bytes are as they were.
-fn is_as_before(bytes: &[u8]) -> bool {
+pub(crate) fn is_as_before(bytes: &[u8]) -> bool {
     for byte in bytes {
         if *byte != BEFORE {
             return false;
@@ -63,7 +63,7 @@ fn is_as_before(bytes: &[u8]) -> bool {
 }
 
 // Whether a blob comes to this: the content stands in the buffer, and the rest is as it was.
-fn comes_to(device: &Device, blob: &[u8], wanted: Result<&[u8], UnsealFault>) -> bool {
+pub(crate) fn comes_to(device: &Device, blob: &[u8], wanted: Result<&[u8], UnsealFault>) -> bool {
     let mut out = [BEFORE; LONGEST_SEALED];
     match (
         device.unseal(blob, &mut out, &mut Fuse { left: Some(1) }),

@@ -11,6 +11,8 @@ mod counters;
 #[cfg(test)]
 mod device;
 #[cfg(test)]
+mod device_calls;
+#[cfg(test)]
 mod edges;
 #[cfg(test)]
 mod images;
