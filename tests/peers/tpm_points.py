@@ -2,11 +2,14 @@
 
 Each function is one point: it is given a TPM that has an owner and no counter, and answers whether the point holds.
 """
+import time
+
 from swtpm import (
     AUTHFAIL,
     BAD_COUNTER,
     BAD_LOCALITY,
     DEFEND_LOCK_RUNNING,
+    LABEL,
     NOSRK,
     NOTLOCAL,
     NOTRESETABLE,
@@ -47,15 +50,23 @@ def increments(tpm):
     return tried == [AUTHFAIL, AUTHFAIL, SUCCESS]
 
 
-def strangers(tpm):
-    """after some wrong authorizations the TPM refuses all, until some time has passed or it is started anew"""
-    tpm.create_counter(MINE)
+def locked(tpm):
+    """Whether wrong authorizations come to bar right ones too."""
     tried = [answer(tpm.increment_counter, 0, YOURS) for _ in range(10)]
-    locked = tried.count(DEFEND_LOCK_RUNNING)
-    tried += [answer(tpm.increment_counter, 0, MINE)]
+    barred = tried.count(DEFEND_LOCK_RUNNING)
+    tried.append(answer(tpm.increment_counter, 0, MINE))
+    return 0 < barred < 10 and tried == [AUTHFAIL] * (10 - barred) + [DEFEND_LOCK_RUNNING] * (barred + 1)
+
+
+def strangers(tpm):
+    """after some wrong authorizations the TPM refuses right ones too, until some time has passed or its next start"""
+    tpm.create_counter(MINE)
+    anew = locked(tpm)
     tpm.power_on()
-    tried += [answer(tpm.increment_counter, 0, MINE)]
-    return 0 < locked < 7 and tried == [AUTHFAIL] * (10 - locked) + [DEFEND_LOCK_RUNNING] * (locked + 1) + [SUCCESS]
+    anew = anew and answer(tpm.increment_counter, 0, MINE) == SUCCESS
+    later = locked(tpm)
+    time.sleep(20)
+    return anew and later and answer(tpm.increment_counter, 0, MINE) == SUCCESS
 
 
 def readers(tpm):
@@ -84,10 +95,11 @@ def first_value(tpm):
 
 
 def handles(tpm):
-    """a handle is given again after its counter was released"""
+    """a counter has a handle, which is given again after a release, and the label that its creator chose"""
     given = [tpm.create_counter(MINE)[0] for _ in range(3)]
     tpm.release_counter(1, MINE)
-    return given + [tpm.create_counter(YOURS)[0]] == [0, 1, 2, 1]
+    given.append(tpm.create_counter(YOURS)[0])
+    return given == [0, 1, 2, 1] and tpm.command("ReadCounter", bytes(4))[2:6] == LABEL
 
 
 def release(tpm):
