@@ -8,7 +8,8 @@ use seal_device::{
     commands_by_counters,
 };
 
-// The first blob of "k" once the image was measured, of which counter 0 has to stand at 1; and at 2.
+// The first blob of "k" once the image was measured, of which counter 0 has to stand at 1; and one
+// of which it has to stand at 2.
 const AT_ONE: &[u8] =
     b"\x46\x4c\x4b\x31\x00\x00\x00\x00\x00\x00\x00\x00\x00\x00\x00\x00\x01\xe0\xcc\x23\x3e\xcb\
       \xe4\x70\xac\x07\x25\x25\xc3\x29\xb3\x2f\xe5\xac\x3b\xd6\x4b\x00\x01\xf0\xf7\xc0\xfc\x9e\
