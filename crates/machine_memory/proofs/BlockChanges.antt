@@ -1,6 +1,6 @@
 -- What taking a span and giving it back does to blocks, and blocks that are all empty or all zero.
-use Rattle.std.proofs.Common.{◌≡◌, ◌≢◌, ◌⊎◌, ℕ, ◌+◌, ◌-◌, ◌<◌, ◌≤◌, List, [], length, get_or}
-use Rattle.std.proofs.Common.{replicate, map, refl, sym, ap, ◌∙◌, inl, inr, arith, Some, slice_get}
+use Rattle.std.proofs.Common.{◌≡◌, ◌≢◌, ◌⊎◌, ℕ, ◌-◌, ◌<◌, ◌≤◌, List, [], length, get_or}
+use Rattle.std.proofs.Common.{replicate, map, sym, ap, ◌∙◌, inl, inr, arith, Some, slice_get}
 use Rattle.std.proofs.Common.{set, get_or-set_same}
 use Rattle.std.proofs.lemmas.Bool.{cases_lt, cases_eq}
 use Rattle.std.proofs.lemmas.List.{get_or_past, get_or-replicate, length-replicate, length-set}
@@ -20,7 +20,7 @@ use Rattle.region_pool.proofs.PoolMarks.{before-with_span, before-without_span}
 use Rattle.region_pool.proofs.Search.{free-place, within-place}
 use Rattle.machine_memory.specs.Writes.{written}
 use Rattle.machine_memory.specs.Contents.{first_byte, frame_of}
-use Rattle.machine_memory.specs.Blocks.{start_of, block_at, byte_at, bytes_in, HasBlocks}
+use Rattle.machine_memory.specs.Blocks.{start_of, block_at, bytes_in, HasBlocks}
 use Rattle.machine_memory.proofs.Pieces.{writes-written}
 use Rattle.machine_memory.proofs.StartLemmas.{IsOutside, start-outside, start-replaced}
 use Rattle.machine_memory.proofs.BlockLemmas.{length-bytes_in, slice_get-bytes_in, byte-free}

@@ -1,33 +1,24 @@
 -- All bytes of memory, and the block of one span.
-use Rattle.std.proofs.Common.{◌≡◌, ◌≢◌, ◌⊎◌, ℕ, zero, suc, ◌+◌, ◌-◌, ◌<◌, ◌≤◌, List, [], ◌∷◌, length}
-use Rattle.std.proofs.Common.{get_or, set, replicate, map, refl, sym, ap, ◌∙◌, inl, inr, arith}
+use Rattle.std.proofs.Common.{◌≡◌, ◌≢◌, ◌⊎◌, ℕ, ◌+◌, ◌-◌, ◌<◌, ◌≤◌, List, [], ◌∷◌, length}
+use Rattle.std.proofs.Common.{get_or, set, refl, sym, ap, ◌∙◌, inl, inr, arith}
 use Rattle.std.proofs.Common.{Some, slice_get, get_or-set_same, get_or-set_other, take, drop}
 use Rattle.std.proofs.Common.{length-take, length-drop}
 use Rattle.std.proofs.Math.Seq.{take-add}
-use Rattle.std.specs.List.{range_with_len}
 use Rattle.std.proofs.lemmas.Bool.{cases_lt, cases_eq}
-use Rattle.std.proofs.lemmas.List.{get_or_past, get_or-replicate, length-replicate, length-set}
-use Rattle.std.proofs.lemmas.List.{get_or-map, length-map}
+use Rattle.std.proofs.lemmas.List.{get_or_past, length-set}
 use Rattle.std.proofs.lemmas.List.FromFn.{length-map-range_with_len, get_or-map-range_with_len}
-use Rattle.std.proofs.lemmas.Option.{slice_get-get_or, slice_get_within}
+use Rattle.std.proofs.lemmas.Option.{slice_get-get_or}
 use Rattle.region_pool.specs.declared.mark.Mark.{Mark}
-use Rattle.region_pool.specs.declared.mark.Mark.TheVariants.{Free, Next}
-use Rattle.region_pool.specs.Marks.{IsPool}
-use Rattle.region_pool.specs.Places.{IsPlace}
-use Rattle.region_pool.specs.Spans.{Span, end_of, marks_of, Holds, with_span, without_span, IsSpanAt}
-use Rattle.region_pool.proofs.Frames.{slice_get-replicate, same_at_each}
-use Rattle.region_pool.proofs.HeldSpans.{Replaces, stands-from_held, taken-stands, first_mark-free}
-use Rattle.region_pool.proofs.HeldSpans.{first_mark-next}
-use Rattle.region_pool.proofs.PoolMarks.{taken_is, given_is, replaces-back, held-with_span}
-use Rattle.region_pool.proofs.PoolMarks.{before-with_span, before-without_span}
-use Rattle.region_pool.proofs.Search.{free-place, within-place}
+use Rattle.region_pool.specs.declared.mark.Mark.TheVariants.{Free}
+use Rattle.region_pool.specs.Spans.{Span, end_of, Holds, IsSpanAt}
+use Rattle.region_pool.proofs.Frames.{same_at_each}
+use Rattle.region_pool.proofs.HeldSpans.{stands-from_held}
 use Rattle.machine_memory.specs.Writes.{part, written}
 use Rattle.machine_memory.specs.Contents.{first_byte, frame_of}
 use Rattle.machine_memory.specs.Blocks.{start_of, block_at, byte_at, bytes_in, HasBlocks}
 use Rattle.machine_memory.proofs.Pieces.{Writes, writes-written, slice_get-part, length-part}
 use Rattle.machine_memory.proofs.Pieces.{written-after}
 use Rattle.machine_memory.proofs.StartLemmas.{IsOutside, start-held, start-free, start-outside}
-use Rattle.machine_memory.proofs.StartLemmas.{start-replaced}
 
 -- byte by byte
 

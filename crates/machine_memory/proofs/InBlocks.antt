@@ -1,8 +1,9 @@
 -- Memory in blocks: what is true of it stays true where it changes, and what it holds is what the
 -- definitions say.
-use Rattle.std.proofs.Common.{◌≡◌, ◌+◌, ◌≤◌, ℕ, List, [], length, set, replicate, map, refl, sym}
+use Rattle.std.proofs.Common.{◌≡◌, ◌+◌, ◌≤◌, ℕ, List, [], length, set, replicate, map, sym}
 use Rattle.std.proofs.Common.{ap, ◌∙◌, arith, Bool, true, false}
 use Rattle.std.specs.List.{refill}
+use Rattle.std.proofs.lemmas.List.{take_all}
 use Rattle.region_pool.specs.declared.mark.Mark.{Mark}
 use Rattle.region_pool.specs.declared.mark.Mark.TheVariants.{Free}
 use Rattle.region_pool.specs.Marks.{is_free}
@@ -12,9 +13,10 @@ use Rattle.machine_memory.specs.Writes.{part, written, lent_back}
 use Rattle.machine_memory.specs.Contents.{Contents, IsMemory, first_byte, frame_count, blank}
 use Rattle.machine_memory.specs.Contents.{after_power_cycle}
 use Rattle.machine_memory.specs.Blocks.{block_at, bytes_in, HasBlocks, contents_in, IsInBlocks}
-use Rattle.machine_memory.specs.Spans.{with_bytes, bytes_of, after_take, after_give}
+use Rattle.machine_memory.specs.Spans.{with_bytes, after_take, after_give}
 use Rattle.machine_memory.specs.LentParts.{with_others}
 use Rattle.machine_memory.specs.LentSpans.{after_loan}
+use Rattle.machine_memory.proofs.Pieces.{writes-written}
 use Rattle.machine_memory.proofs.Pieces.{refill-long, length-refill, length-part, length-lent_back}
 use Rattle.machine_memory.proofs.MemoryLemmas.{memory-after_take, memory-after_give}
 use Rattle.machine_memory.proofs.MemoryLemmas.{memory-after_loan, memory-blank}
@@ -160,6 +162,33 @@ bytes-of_block marks blocks span frames has held few =
     let here : first_byte span.first + 0 ≡ first_byte span.first = omega arith in
     sym (part-block marks blocks span 0 (first_byte frames) has held (omega arith))
     ∙ ap (λ (n : ℕ). part (bytes_in marks blocks) n (first_byte frames)) here
+
+pub block-of_span : (marks : List Mark) (blocks : List (List ℕ)) (span : Span)
+    → HasBlocks marks blocks → Holds marks span
+    → block_at blocks span.first
+    ≡ part (bytes_in marks blocks) (first_byte span.first) (first_byte span.frames)
+block-of_span marks blocks span has held =
+    let long = has.of_span span held in
+    sym (take_all (first_byte span.frames) (block_at blocks span.first) (omega arith))
+    ∙ bytes-of_block marks blocks span span.frames has held (omega arith)
+
+-- the first bytes of a span written
+pub front-written : (marks : List Mark) (blocks : List (List ℕ)) (span : Span) (piece : List ℕ)
+    → HasBlocks marks blocks → Holds marks span → length piece ≤ first_byte span.frames
+    → WritesSpan marks blocks
+    (set blocks span.first (written (block_at blocks span.first) 0 piece)) (first_byte span.first)
+    piece
+front-written marks blocks span piece has held few =
+    let block : List ℕ = block_at blocks span.first in
+    let long = has.of_span span held in
+    let here : first_byte span.first + 0 ≡ first_byte span.first = omega arith in
+    let one = writes-written block 0 piece (omega arith) in
+    record {
+      has = blocks-set marks blocks span.first (written block 0 piece) has
+          (block_within marks blocks span has held) one.long;
+      bytes = written-block marks blocks span 0 piece has held (omega arith)
+          ∙ ap (λ (n : ℕ). written (bytes_in marks blocks) n piece) here;
+    }
 
 -- memory as it is made, and after a power cycle
 

@@ -54,5 +54,5 @@ contents_in marks excluded blocks = record {
 -- what is true of every memory and of its blocks
 pub record IsInBlocks (marks : List Mark) (excluded : List Bool) (blocks : List (List ℕ)) : Type 0
   where
-  pub memory : IsMemory (contents_in marks excluded blocks)
-  pub has : HasBlocks marks blocks
+    pub memory : IsMemory (contents_in marks excluded blocks)
+    pub has : HasBlocks marks blocks

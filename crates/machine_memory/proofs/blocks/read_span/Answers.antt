@@ -1,7 +1,6 @@
-use Rattle.std.proofs.Common.{◌≡◌, ◌≤◌, ◌+◌, ◌-◌, ℕ, List, length, take, drop, ap, sym, ◌∙◌, arith}
+use Rattle.std.proofs.Common.{◌≡◌, ◌+◌, ◌-◌, ℕ, List, length, take, drop, ap, sym, ◌∙◌, arith}
 use Rattle.std.proofs.lemmas.Bool.{eqb-false}
 use Rattle.machine_memory.specs.Contents.{first_byte}
-use Rattle.machine_memory.specs.Blocks.{block_at}
 use Rattle.machine_memory.proofs.SpanLemmas.{lies-taken, lies_in_found}
 use Rattle.machine_memory.proofs.BlockLemmas.{part-found, long-found, within-found, block-is}
 use Rattle.machine_memory.proofs.blocks.read_span.Goals as goal

@@ -1,4 +1,4 @@
-use Rattle.std.proofs.Common.{◌≡◌, ◌≤◌, ◌<◌, ◌+◌, ◌-◌, ℕ, List, length, take, drop, ap, sym}
+use Rattle.std.proofs.Common.{◌≡◌, ◌≤◌, ◌+◌, ◌-◌, ℕ, List, length, take, drop, ap, sym}
 use Rattle.std.proofs.Common.{◌∙◌, get_or, arith}
 use Rattle.machine_memory.specs.Writes.{written}
 use Rattle.machine_memory.specs.Contents.{first_byte}
