@@ -1,8 +1,12 @@
+pub mod BlockChanges
+pub mod BlockLemmas
 pub mod DeviceLemmas
 pub mod DmaLemmas
+pub mod InBlocks
 pub mod Inside
 pub mod MemoryLemmas
 pub mod PartLent
 pub mod Pieces
 pub mod SizeLemmas
 pub mod SpanLemmas
+pub mod StartLemmas

@@ -1,15 +1,15 @@
 -- What is true of every memory stays true where it changes.
 use Rattle.std.proofs.Common.{◌≡◌, ℕ, ◌+◌, ◌-◌, ◌<◌, ◌≤◌, ◌^◌, List, length, replicate, refl}
 use Rattle.std.proofs.Common.{sym, ap, ◌∙◌, inl, inr, arith, lit<, Bool, true, false, Some}
-use Rattle.std.proofs.Common.{slice_get, set, [], ◌∷◌}
+use Rattle.std.proofs.Common.{slice_get, get_or, set, [], ◌∷◌}
 use Rattle.std.specs.Option.{option_map}
 use Rattle.std.specs.List.{refill}
 use Rattle.std.proofs.lemmas.Bool.{cases_lt, both_ways}
 use Rattle.std.proofs.lemmas.List.{length-replicate, length-map}
-use Rattle.std.proofs.lemmas.Option.{slice_get-map, slice_get_within}
+use Rattle.std.proofs.lemmas.Option.{slice_get-map, slice_get_within, slice_get-get_or}
 use Rattle.region_pool.specs.declared.mark.Mark.{Mark}
 use Rattle.region_pool.specs.declared.mark.Mark.TheVariants.{Free}
-use Rattle.region_pool.specs.Marks.{is_free}
+use Rattle.region_pool.specs.Marks.{is_free, IsTaken}
 use Rattle.region_pool.specs.Places.{IsPlace}
 use Rattle.region_pool.specs.Spans.{Span, end_of, marks_of, Holds}
 use Rattle.region_pool.proofs.Frames.{slice_get-replicate, same_at_each}
@@ -17,6 +17,7 @@ use Rattle.region_pool.proofs.HeldSpans.{replaces-with_marks, length-marks_of, s
 use Rattle.region_pool.proofs.HeldSpans.{taken-stands}
 use Rattle.region_pool.proofs.PoolMarks.{pool-with_span, pool-without_span, held-with_span}
 use Rattle.region_pool.proofs.PoolMarks.{pool-replicate}
+use Rattle.region_pool.proofs.FrameSpans.{taken-from_mark}
 use Rattle.region_pool.proofs.Search.{free-place, within-place}
 use Rattle.machine_memory.specs.Writes.{part, written}
 use Rattle.machine_memory.specs.Contents.{Contents, IsMemory, IsFree, first_byte, frame_of}
@@ -25,7 +26,7 @@ use Rattle.machine_memory.specs.Spans.{LiesInSpan, bytes_of, with_bytes, after_t
 use Rattle.machine_memory.specs.LentSpans.{after_loan}
 use Rattle.machine_memory.specs.DeviceWrites.{may_write}
 use Rattle.machine_memory.proofs.Pieces.{refill-long, lent_back-set, length-refill, writes-written}
-use Rattle.machine_memory.proofs.Pieces.{slice_get-part, length-part}
+use Rattle.machine_memory.proofs.Pieces.{slice_get-part, length-part, written-nothing}
 use Rattle.machine_memory.proofs.DeviceLemmas.{may_write-true, may_write-past}
 
 -- as many bytes as the frames have
@@ -108,6 +109,30 @@ memory-device_write memory at piece m some e =
     (λ address l h free.
     let open' = may_write-true memory.excluded at (length piece) e address l h in
     let clash : Some true ≡ Some false = sym (m.free_is_excluded (frame_of address) free) ∙ open' in
+    cc)
+
+-- also where no byte is written
+pub memory-device_done : (memory : Contents) (at : ℕ) (piece : List ℕ) → IsMemory memory
+    → may_write memory.excluded at (length piece) ≡ true → IsMemory (with_bytes memory at piece)
+memory-device_done memory at [] m e = rw (written-nothing memory.bytes at) m
+memory-device_done memory at (x ∷ piece) m e =
+    memory-device_write memory at (x ∷ piece) m (omega arith) e
+
+-- what devices may write is taken
+pub open-taken : (memory : Contents) (at count address : ℕ) → IsMemory memory
+    → may_write memory.excluded at count ≡ true → at ≤ address → address < at + count
+    → IsTaken memory.marks (frame_of address)
+open-taken memory at count address m e l h =
+    let frame : ℕ = frame_of address in
+    let open' = may_write-true memory.excluded at count e address l h in
+    let inside = slice_get_within memory.excluded frame false open' in
+    let marks = m.frames in
+    let bits = m.bits in
+    let here = slice_get-get_or memory.marks frame Free (omega arith) in
+    taken-from_mark memory.marks frame (get_or memory.marks frame Free) here
+    (λ free.
+    let clash : Some true ≡ Some false = sym (m.free_is_excluded frame (here ∙ ap Some free))
+    ∙ open' in
     cc)
 
 -- exclusion bits of frames that are not free may change

@@ -1,5 +1,5 @@
 -- Bytes that lie in one span.
-use Rattle.std.proofs.Common.{◌≡◌, ℕ, ◌+◌, ◌-◌, ◌≤◌, ◌↔◌, List, refl, ap, arith, inl, inr}
+use Rattle.std.proofs.Common.{◌≡◌, ℕ, ◌+◌, ◌-◌, ◌<◌, ◌≤◌, ◌↔◌, List, refl, ap, arith, inl, inr}
 use Rattle.std.proofs.Common.{true, ◌||◌, leb, Option, Some, None, is_some, IfSome, IfNone, IsTrue}
 use Rattle.std.proofs.lemmas.Bool.{cases_lt, le-leb, leb-true, or_cases, or_left, or_right}
 use Rattle.std.proofs.lemmas.Bool.{false≢true}
@@ -97,6 +97,29 @@ fits_found marks at count first frames some found = (to, from)
         let first_is = found.begins in
         let long = found.long in
         le-leb count (first_byte (first + frames) - at) (omega arith)
+
+-- where they lie in one span, it is that of their first frame
+pub lies_in_found : (marks : List Mark) (at count first frames : ℕ) → 1 ≤ count
+    → IsSpanAt marks (frame_of at) first frames → LiesInSpan marks at count
+    → at + count ≤ first_byte (first + frames)
+lies_in_found marks at count first frames some found s =
+    let begins = s.inside.begins in
+    let ends = s.inside.ends in
+    let same = same_from_frame marks s.span found.span (frame_of at) s.held found.held
+    (record { begun = omega arith; unended = omega arith }) found.inside in
+    let stop : end_of s.span ≡ end_of found.span = ap end_of same in
+    let first_is = found.begins in
+    let long = found.long in
+    omega arith
+
+-- what lies in a span is taken
+pub lies-taken : (marks : List Mark) (at count address : ℕ) → LiesInSpan marks at count
+    → at ≤ address → address < at + count → IsTaken marks (frame_of address)
+lies-taken marks at count address s l h =
+    let begins = s.inside.begins in
+    let ends = s.inside.ends in
+    taken-held marks s.span (frame_of address) s.held
+    (record { begun = omega arith; unended = omega arith })
 
 pub fits_not_taken : (marks : List Mark) (at count : ℕ) → 1 ≤ count
     → (¬ IsTaken marks (frame_of at))

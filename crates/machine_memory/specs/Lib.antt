@@ -1,5 +1,6 @@
 pub mod Writes
 pub mod Contents
+pub mod Blocks
 pub mod Spans
 pub mod Areas
 pub mod DeviceWrites

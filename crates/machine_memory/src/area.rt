@@ -7,7 +7,7 @@ ghost use Rattle.machine_memory.specs.LentSpans.{LendsRegion};
 ghost use Rattle.machine_memory.specs.Areas.{IsArea, region_frames, region_of, guarded, unguarded};
 ghost use Rattle.machine_memory.specs.Areas.{erased};
 
-use crate::lists::{exclude_at, wipe_at};
+use crate::lists::exclude_at;
 use crate::memory::Memory;
 use crate::sizes::{FRAME_LEN, frames_of_region};
 use region_pool::Ticket;
@@ -36,8 +36,8 @@ impl Memory {
         requires { IsArea self.old.marks area.now }
         ensures { self.new ≡ erased self.old area.now }
     {
-        let at = FRAME_LEN * area.first() as usize;
-        wipe_at(&mut self.bytes.items, at, FRAME_LEN * frames_of_region());
+        let first = area.first() as usize;
+        self.blocks[first].wipe(FRAME_LEN * frames_of_region());
     }
 
     /// Lends the bytes of the region, to be written.
@@ -47,8 +47,7 @@ impl Memory {
         ensures bytes { result.now ≡ bytes_of self.old (region_of area.now) }
         ensures size { length result.now ≡ first_byte region_frames }
     {
-        let at = FRAME_LEN * area.first() as usize;
         let count = FRAME_LEN * frames_of_region();
-        self.bytes.part(at, count)
+        self.blocks[area.first() as usize].part(0, count)
     }
 }

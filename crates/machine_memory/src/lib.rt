@@ -3,7 +3,8 @@
 #![tactic(auto)]
 
 mod area;
-mod bytes;
+mod block;
+mod blocks;
 mod device;
 mod dma;
 mod laws;

@@ -11,9 +11,10 @@ ghost use Rattle.machine_memory.specs.Spans.{after_give};
 ghost use Rattle.machine_memory.specs.LentSpans.{LendsSpan};
 ghost use Rattle.machine_memory.specs.DeviceWrites.{HasShutByte, device_end, after_device_write};
 
-use crate::bytes::Bytes;
+use crate::block::Block;
+use crate::blocks::{no_blocks, read_span, wipe_blocks, write_spans};
 use crate::device::{DevEnd, may_write};
-use crate::lists::{exclude_at, exclude_free, wipe_at, write_at};
+use crate::lists::{exclude_at, exclude_free};
 use crate::sizes::{FRAME_LEN, frames_of_memory};
 use crate::spans::lies_in_span;
 use region_pool::{NoMemory, NoRoom, Pool, Purpose, Ticket};
@@ -33,38 +34,25 @@ pub enum TakeFault {
 #[derive(Clone, Copy)]
 pub struct NotTaken;
 
-/// Memory of `FRAMES` frames. Contracts see its bytes, and the mark and the exclusion bit of each
-/// frame. Every frame that is free is zero and excluded.
+/// Memory of `FRAMES` frames: for each frame a mark, an exclusion bit and a block, in which a span
+/// has its bytes at its first frame. Contracts see all bytes, and the marks and the bits. Every
+/// frame that is free has no bytes and is seen as zero, and it is excluded.
 #[derive(Drop)]
 pub struct Memory {
-    pub(crate) bytes: Bytes,
+    pub(crate) blocks: Vec<Block>,
     pub(crate) pool: Pool,
     pub(crate) excluded: Vec<bool>,
 }
 
 impl Model for Memory {
-    ghost use Rattle.machine_memory.specs.Contents.{Contents, IsMemory};
+    ghost use Rattle.machine_memory.specs.Contents.{Contents};
+    ghost use Rattle.machine_memory.specs.Blocks.{contents_in, IsInBlocks};
 
     ghost Value = { Contents };
 
-    ghost view = { λ m. record {
-      bytes = m.bytes.items.items;
-      marks = m.pool;
-      excluded = m.excluded.items;
-    } };
+    ghost view = { λ m. contents_in m.pool m.excluded.items m.blocks.items };
 
-    ghost invariant = { λ m. IsMemory
-        (record { bytes = m.bytes.items.items; marks = m.pool; excluded = m.excluded.items }) };
-}
-
-/// So many zeros.
-fn zeros(alloc: Global, count: usize) -> Result<Vec<u8>, NoMemory>
-    ensures { IfOk result (λ bytes. bytes.items ≡ replicate count 0) }
-{
-    match vec![in alloc; 0; count] {
-        Ok(bytes) => Ok(bytes),
-        Err(AllocError) => Err(NoMemory),
-    }
+    ghost invariant = { λ m. IsInBlocks m.pool m.excluded.items m.blocks.items };
 }
 
 /// So many frames, each excluded.
@@ -88,10 +76,10 @@ impl Memory {
     {
         let frames = frames_of_memory();
         let pool = Pool::new(alloc, frames)?;
-        let items = zeros(alloc, FRAME_LEN * frames as usize)?;
+        let blocks = no_blocks(alloc, frames as usize)?;
         let excluded = all_excluded(alloc, frames as usize)?;
         Ok(Memory {
-            bytes: Bytes { items },
+            blocks,
             pool,
             excluded,
         })
@@ -102,14 +90,13 @@ impl Memory {
     ///
     /// # Errors
     ///
-    /// `NoRoom` where there is no such place. `NoMemory` never comes, since nothing is allocated
-    /// here. Memory is then as before.
+    /// `NoRoom` where there is no such place, and else `NoMemory` where there is no memory for its
+    /// bytes. Memory is then as before.
     pub fn take(&mut self, frames: u32, align: u32, purpose: Purpose) -> Result<Ticket, TakeFault>
         requires some { 1 ≤ frames }
         requires aligned { 1 ≤ align }
 
         ensures no_room { IsErrOf result TakeFault.NoRoom ↔ HasNoPlace self.old.marks frames align }
-        ensures no_memory { IfErr result (λ fault. fault ≢ TakeFault.NoMemory) }
         ensures unchanged { OnErr result (self.new ≡ self.old) }
 
         ensures lowest { IfOk result
@@ -126,9 +113,18 @@ impl Memory {
         ensures apart { IfOk result (λ ticket.
             (other : Span) → Holds self.old.marks other → IsDisjoint ticket other) }
     {
+        if self.pool.place(frames, align).is_none() {
+            return Err(TakeFault::NoRoom);
+        }
+        let alloc = *self.blocks.allocator();
+        let block = match Block::zeros(alloc, FRAME_LEN * frames as usize) {
+            Ok(block) => block,
+            Err(NoMemory) => return Err(TakeFault::NoMemory),
+        };
         match self.pool.take(frames, align, purpose) {
             Ok(ticket) => {
                 let first = ticket.first() as usize;
+                self.blocks[first] = block;
                 exclude_at(&mut self.excluded, first, frames as usize, false);
                 Ok(ticket)
             }
@@ -145,7 +141,8 @@ impl Memory {
     {
         let first = ticket.first() as usize;
         let frames = ticket.frames() as usize;
-        wipe_at(&mut self.bytes.items, FRAME_LEN * first, FRAME_LEN * frames);
+        let alloc = *self.blocks.allocator();
+        self.blocks[first] = Block::empty(alloc);
         exclude_at(&mut self.excluded, first, frames, true);
         self.pool.give(ticket);
     }
@@ -165,8 +162,7 @@ impl Memory {
         if !lies_in_span(&self.pool, at, out.len()) {
             return Err(NotTaken);
         }
-        let at = at as usize;
-        out.copy_from_slice(&self.bytes.items[at..at + out.len()]);
+        read_span(&self.blocks, &self.pool, at as usize, out);
         Ok(())
     }
 
@@ -185,7 +181,7 @@ impl Memory {
         if !lies_in_span(&self.pool, at, bytes.len()) {
             return Err(NotTaken);
         }
-        write_at(&mut self.bytes.items, at as usize, bytes);
+        write_spans(&mut self.blocks, &self.pool, at as usize, bytes);
         Ok(())
     }
 
@@ -199,9 +195,7 @@ impl Memory {
         if !may_write(&self.excluded, at, bytes.len()) {
             return DevEnd::Blocked;
         }
-        if !bytes.is_empty() {
-            write_at(&mut self.bytes.items, at as usize, bytes);
-        }
+        write_spans(&mut self.blocks, &self.pool, at as usize, bytes);
         DevEnd::Done
     }
 
@@ -211,9 +205,7 @@ impl Memory {
         ensures bytes { result.now ≡ bytes_of self.now span.now }
         ensures size { length result.now ≡ first_byte span.now.frames }
     {
-        let at = FRAME_LEN * span.first() as usize;
-        let end = at + FRAME_LEN * span.frames() as usize;
-        &self.bytes.items[at..end]
+        self.blocks[span.first() as usize].bytes()
     }
 
     /// Lends the bytes of a span, to be written.
@@ -223,9 +215,8 @@ impl Memory {
         ensures bytes { result.now ≡ bytes_of self.old span.now }
         ensures size { length result.now ≡ first_byte span.now.frames }
     {
-        let at = FRAME_LEN * span.first() as usize;
         let count = FRAME_LEN * span.frames() as usize;
-        self.bytes.part(at, count)
+        self.blocks[span.first() as usize].part(0, count)
     }
 
     /// The power goes and comes back: all bytes become zero. Spans stay taken, and their frames are
@@ -233,8 +224,7 @@ impl Memory {
     pub fn power_cycle(&mut self)
         ensures { self.new ≡ after_power_cycle self.old }
     {
-        let size = self.bytes.items.len();
-        wipe_at(&mut self.bytes.items, 0, size);
+        wipe_blocks(&mut self.blocks);
         exclude_free(&mut self.excluded, &self.pool);
     }
 }

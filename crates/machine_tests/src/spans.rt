@@ -79,6 +79,48 @@ fn is_wiped(memory: &mut Memory) -> bool {
     is_zero
 }
 
+// Whether two more frames are taken and given back; or there was no memory for them, and the
+// byte that was written stands, and they are free.
+fn is_taken_or_left(memory: &mut Memory) -> bool
+    ensures { (other : Span) → Holds memory.old.marks other → Holds memory.new.marks other }
+{
+    match memory.take(2, 1, Purpose::Host) {
+        Ok(more) => {
+            memory.give_wiped(more);
+            true
+        }
+        Err(TakeFault::NoMemory) => are_steps(
+            memory,
+            &[
+                Step::Peek(1, Some(9)),
+                Step::Touch(4097, false),
+                Step::Dma(4096, &[1], false),
+            ],
+        ),
+        Err(TakeFault::NoRoom) => false,
+    }
+}
+
+// Whether a take that is refused memory leaves all as it was. Where memory is refused before, there
+// is nothing to see: that each of these calls succeeds where there is memory, the other rows show.
+fn is_left(alloc: Global) -> bool {
+    let Ok(mut memory) = Memory::blank(alloc) else {
+        return true;
+    };
+    let Ok(one) = memory.take(1, 1, Purpose::Host) else {
+        return true;
+    };
+    let is_right = are_steps(&mut memory, &[Step::Poke(1, &[9], true)])
+        && is_taken_or_left(&mut memory);
+    memory.give_wiped(one);
+    is_right
+}
+
+#[test]
+fn refused_take_leaves_memory(rt: HostRuntime) {
+    assert!(rt; is_left(rt.alloc()), "refused");
+}
+
 #[test]
 fn spans_have_edges(rt: HostRuntime) {
     let rows: [&[Step<'static>]; 2] = [&SIDE_BY_SIDE, &EMPTY_PIECES];

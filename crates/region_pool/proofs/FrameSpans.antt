@@ -22,7 +22,7 @@ taken-not_free marks frame taken free = at (slice_get marks frame) taken free
     at None t e = cc
     at (Some m) t e = t cc
 
-taken-from_mark : (marks : List Mark) (frame : ℕ) (m : Mark) → slice_get marks frame ≡ Some m
+pub taken-from_mark : (marks : List Mark) (frame : ℕ) (m : Mark) → slice_get marks frame ≡ Some m
     → m ≢ mark.Free → IsTaken marks frame
 taken-from_mark marks frame m e n = rw e n
 

@@ -1,5 +1,5 @@
 -- What is true of every pool stays true where a span is taken or given back.
-use Rattle.std.proofs.Common.{◌≡◌, ◌≢◌, ℕ, zero, suc, ◌-◌, ◌<◌, ◌≤◌, ◌^◌, List, ◌∷◌, length}
+use Rattle.std.proofs.Common.{◌≡◌, ◌≢◌, ◌⊎◌, ℕ, zero, suc, ◌-◌, ◌<◌, ◌≤◌, ◌^◌, List, ◌∷◌, length}
 use Rattle.std.proofs.Common.{replicate, refl, sym, ap, ◌∙◌, inl, inr, arith, Some, slice_get}
 use Rattle.std.proofs.lemmas.List.{length-replicate}
 use Rattle.std.proofs.lemmas.Bool.{cases_lt}
@@ -7,7 +7,7 @@ use Rattle.std.proofs.lemmas.Option.{slice_get_within}
 use Rattle.region_pool.specs.declared.mark.Mark.{Mark}
 use Rattle.region_pool.specs.declared.mark.Mark.TheVariants as mark
 use Rattle.region_pool.specs.Marks.{IsPool}
-use Rattle.region_pool.specs.Spans.{Span, end_of, marks_of, Holds, IsDisjoint, with_span}
+use Rattle.region_pool.specs.Spans.{Span, end_of, marks_of, marks_at, Holds, IsDisjoint, with_span}
 use Rattle.region_pool.specs.Spans.{without_span}
 use Rattle.region_pool.specs.Places.{IsPlace}
 use Rattle.region_pool.proofs.Search.{free-place, within-place}
@@ -15,6 +15,7 @@ use Rattle.region_pool.proofs.Frames.{slice_get-replicate}
 use Rattle.region_pool.proofs.HeldSpans.{first_mark-next, first_mark-free, length-marks_of}
 use Rattle.region_pool.proofs.HeldSpans.{Replaces, replaces-with_marks, stands-from_held}
 use Rattle.region_pool.proofs.HeldSpans.{held-from_stands, held-apart, held_apart, apart_from_free}
+use Rattle.region_pool.proofs.HeldSpans.{slice_get-marks_at}
 
 -- the first frame is no next frame, where the span's first new mark is none
 first_frame : (old new : List Mark) (span : Span) (others : List Mark) → IsPool old
@@ -88,13 +89,35 @@ marks_of-free span (suc k) h e = let n =
 free-next : (n k : ℕ) → k < n → slice_get (replicate n mark.Free) k ≢ Some mark.Next
 free-next n k h e = let f = slice_get-replicate n mark.Free k h in cc
 
+-- a change seen from after it: the span's marks become what they were
+pub replaces-back : (old new : List Mark) (span : Span) (others : List Mark)
+    → Replaces old new span others
+    → Replaces new old span (marks_at old span.first span.frames)
+replaces-back old new span others r = record {
+  long = sym r.long;
+  below = λ k h. sym (r.below k h);
+  inside = λ k j h e. sym (slice_get-marks_at old span.first span.frames k j h e);
+  above = λ k h. sym (r.above k h);
+}
+
+-- what was held where it is held after the change, and is apart from the span
+held_before : (old new : List Mark) (span : Span) (others : List Mark)
+    → Replaces old new span others → 1 ≤ span.frames → slice_get old span.first ≢ Some mark.Next
+    → (other : Span) → Holds new other → IsDisjoint span other → Holds old other
+held_before old new span others r some begins other held d =
+    held-apart new old span (marks_at old span.first span.frames)
+    (replaces-back old new span others r) some
+    (λ next. begins
+    (sym (slice_get-marks_at old span.first span.frames 0 span.first some (omega arith)) ∙ next))
+    other held d
+
 -- a span taken
 
 -- the span's frames are free
 abbrev pub AreFree : List Mark → Span → Type 0
 AreFree marks span = (k : ℕ) → span.first ≤ k → k < end_of span → slice_get marks k ≡ Some mark.Free
 
-taken_is : (marks : List Mark) (span : Span) → 1 ≤ span.frames → end_of span ≤ length marks
+pub taken_is : (marks : List Mark) (span : Span) → 1 ≤ span.frames → end_of span ≤ length marks
     → Replaces marks (with_span marks span) span (marks_of span)
 taken_is marks span some within =
     replaces-with_marks marks span (marks_of span) within (length-marks_of span some)
@@ -152,9 +175,29 @@ others-with_span marks span align some place other held =
     (taken_is marks span some (within-place marks span.frames align span.first some place))
     some (marks_of-begins span) other held (apart-with_span marks span align some place other held)
 
+-- what is held once the span is taken: it, and what was held before and is apart from it
+pub before-with_span : (marks : List Mark) (span : Span) (align : ℕ) → 1 ≤ span.frames
+    → IsPlace marks span.frames align span.first → IsPool marks → (other : Span)
+    → Holds (with_span marks span) other
+    → (other ≡ span) ⊎ (Holds marks other × IsDisjoint span other)
+before-with_span marks span align some place pool other held =
+    let within = within-place marks span.frames align span.first some place in
+    let free = free-place marks span.frames align span.first place in
+    let begins : slice_get marks span.first ≡ Some mark.Free =
+    free span.first (omega arith) (omega arith) in
+    elim (held_apart (with_span marks span) span other
+    (held-with_span marks span align some place pool) held) [
+      | inl e ↦ inl (sym e)
+      | inr d ↦ inr (
+        held_before marks (with_span marks span) span (marks_of span)
+            (taken_is marks span some within) some (λ next. cc) other held d,
+        d,
+      )
+    ]
+
 -- a span given back
 
-given_is : (marks : List Mark) (span : Span) → Holds marks span
+pub given_is : (marks : List Mark) (span : Span) → Holds marks span
     → Replaces marks (without_span marks span) span (replicate span.frames mark.Free)
 given_is marks span held =
     replaces-with_marks marks span (replicate span.frames mark.Free)
@@ -182,6 +225,21 @@ others-without_span marks span held other h differs =
       | inr d ↦ held-apart marks (without_span marks span) span (replicate span.frames mark.Free)
           (given_is marks span held) held.some (free-next span.frames 0 held.some) other h d
     ]
+
+-- what is held once the span is given back was held before, and is apart from it
+pub before-without_span : (marks : List Mark) (span : Span) → Holds marks span → (other : Span)
+    → Holds (without_span marks span) other → Holds marks other × IsDisjoint span other
+before-without_span marks span held other h =
+    let r = given_is marks span held in
+    let s = stands-from_held marks span held in
+    let d = apart_from_free (without_span marks span) span other held.some
+    (λ k l m. r.inside (k - span.first) k (omega arith) (omega arith)
+    ∙ slice_get-replicate span.frames mark.Free (k - span.first) (omega arith))
+    (stands-from_held (without_span marks span) other h) in (
+      held_before marks (without_span marks span) span (replicate span.frames mark.Free) r held.some
+          (λ next. first_mark-next span.purpose (let b = s.begins in cc)) other h d,
+      d,
+    )
 
 -- every frame of a new pool is free
 pub pool-replicate : (n : ℕ) → n < 2 ^ 32 → IsPool (replicate n mark.Free)

@@ -83,6 +83,21 @@ impl Pool {
         }
     }
 
+    /// Where a span of `frames` frames would be taken: the least multiple of `align` that begins
+    /// that many free frames, if there is one.
+    pub fn place(&self, frames: u32, align: u32) -> Option<u32>
+        requires some { 1 ≤ frames }
+        requires aligned { 1 ≤ align }
+
+        ensures found { IfSome result (IsLowestPlace self.now frames align) }
+        ensures none { IfNone result (HasNoPlace self.now frames align) }
+    {
+        match lowest_place(&self.marks, frames as usize, align as usize) {
+            Some(first) => Some(first as u32),
+            None => None,
+        }
+    }
+
     /// Takes a span of `frames` frames at the lowest place, the least multiple of `align` that
     /// begins that many free frames. The spans that were held stay held.
     ///

@@ -1,5 +1,5 @@
 -- What a session answers, and what it leaves.
-use Rattle.std.specs.Prelude.{◌≡◌, ℕ, List, length, nat_lt, replicate, Option, Some, None, Result, Ok, Err, if◌then◌else◌}
+use Rattle.std.specs.Prelude.{◌≡◌, ℕ, List, length, nat_lt, replicate, Bool, true, false, Option, Some, None, Result, Ok, Err, if◌then◌else◌}
 use Rattle.flk_base.specs.Stop.{Fused}
 use Rattle.slb_image.specs.Faults.{image_fault}
 use Rattle.slb_image.specs.declared.fault.ImageFault.{ImageFault}
@@ -14,7 +14,7 @@ use Rattle.slb_core.specs.Pal.{PalEnd}
 use Rattle.slb_core.specs.Reports.{count_of}
 use Rattle.session_driver.specs.Sessions.{area_frames, area_alignment, setting_in, session_plan, wiped}
 use Rattle.session_driver.specs.declared.driver.SessionEnd.{SessionEnd}
-use Rattle.session_driver.specs.declared.driver.SessionEnd.TheVariants.{Ended, NoPlace, BadImage, LongInput}
+use Rattle.session_driver.specs.declared.driver.SessionEnd.TheVariants.{Ended, NoPlace, NoMemory, BadImage, LongInput}
 
 -- why a session is not begun: no image, inputs that do not fit in their page, no area that is free
 pub data Refusal : Type 0 where
@@ -101,3 +101,17 @@ abbrev pub LeavesBeside : BoardParts → List ℕ → List ℕ → List ℕ → 
 LeavesBeside board image inputs nonce writes (IsRefused why) left given = Leaves writes no_outputs left given
 LeavesBeside board image inputs nonce writes (RunsAt first) left given =
     ended_leaves (ran_at board first image inputs nonce writes) left given
+
+-- ---- where there is no memory for the area
+
+-- whether a session answered so
+abbrev pub wants_memory : Result (BoardParts × SessionEnd) DarkParts → Bool
+wants_memory (Ok (after, NoMemory)) = true
+wants_memory other = false
+
+-- what is true where it did: it would have run, and all is as it was
+pub record WantsMemory (board : BoardParts) (writes : List Armed) (course : Course) (result : Result (BoardParts × SessionEnd) DarkParts) (left : List Armed) (given : List ℕ) : Type 0 where
+  pub first : ℕ
+  pub runs : course ≡ RunsAt first
+  pub answer : result ≡ Ok (board, NoMemory)
+  pub leaves : Leaves writes no_outputs left given

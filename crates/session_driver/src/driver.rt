@@ -1,5 +1,5 @@
 //! The session driver.
-ghost use Rattle.std.specs.Prelude.{◌≡◌, ◌≤◌, ◌+◌, length, None, true};
+ghost use Rattle.std.specs.Prelude.{◌≡◌, ◌≤◌, ◌+◌, length, None, true, false};
 ghost use Rattle.slb_image.specs.Faults.{image_fault};
 ghost use Rattle.region_pool.specs.Places.{place};
 ghost use Rattle.machine_memory.specs.Contents.{IsMemory, first_byte};
@@ -15,6 +15,7 @@ ghost use Rattle.session_driver.specs.Sessions.{area_frames, area_alignment};
 ghost use Rattle.session_driver.specs.Filled.{filled, plan_at, answer_at};
 ghost use Rattle.session_driver.specs.Resume.{HostFinds};
 ghost use Rattle.session_driver.specs.Answers.{placed, course, answer_of, no_outputs, ended_leaves, LeavesBeside};
+ghost use Rattle.session_driver.specs.Answers.{wants_memory, WantsMemory};
 
 use late_launch::{Board, Dark, End, LaunchEnd};
 use machine_memory::{Dma, Memory, NotTaken, REGION_FRAMES, TakeFault, frame_law};
@@ -37,6 +38,8 @@ pub enum SessionEnd {
     Ended { end: End, turns: u32 },
     /// No area is free.
     NoPlace,
+    /// There is no memory for the area's bytes.
+    NoMemory,
     /// The bytes are no image.
     BadImage(ImageFault),
     /// There are more than 4,096 bytes of inputs.
@@ -146,10 +149,14 @@ fn run(
     requires image { image_fault image.now ≡ None }
     requires short { length inputs.now ≤ 4096 }
     requires blank { out.old ≡ no_outputs }
-    ensures answer { result ≡ answer_of board image.now inputs.now nonce.now dma.old
+    ensures answer { wants_memory result ≡ false
+        → result ≡ answer_of board image.now inputs.now nonce.now dma.old
         (placed (place board.memory.marks area_frames area_alignment)) }
-    ensures beside { LeavesBeside board image.now inputs.now nonce.now dma.old
+    ensures beside { wants_memory result ≡ false
+        → LeavesBeside board image.now inputs.now nonce.now dma.old
         (placed (place board.memory.marks area_frames area_alignment)) dma.new out.new }
+    ensures memory { wants_memory result ≡ true
+        → WantsMemory board dma.old (placed (place board.memory.marks area_frames area_alignment)) result dma.new out.new }
 {
     let mut board = board;
     frame_law(&board.memory);
@@ -158,7 +165,7 @@ fn run(
         .take(AREA_FRAMES, AREA_ALIGNMENT, Purpose::Launch)
     {
         Err(TakeFault::NoRoom) => return Ok((board, SessionEnd::NoPlace)),
-        Err(TakeFault::NoMemory) => unreachable!(),
+        Err(TakeFault::NoMemory) => return Ok((board, SessionEnd::NoMemory)),
         Ok(area) => {
             fill(&mut board.memory, &area, image, inputs);
             return run_in(board, area, inputs.len() as u16, nonce, dma, out);
@@ -167,7 +174,8 @@ fn run(
 }
 
 /// One session of an image with these inputs and this nonce. The outputs come to `out`, and zeros after them; it is
-/// all zero where the session does not end, or was not begun. A refusal leaves the board and the armed writes. After
+/// all zero where the session does not end, or was not begun. A refusal leaves the board and the armed writes, and so
+/// does want of memory, which may be answered in place of a session that would run. After
 /// a session that ended, however it did, the host finds its registers as they were, and its memory, but for what the
 /// devices wrote that were permitted to.
 ///
@@ -182,10 +190,14 @@ pub fn session(
     dma: &mut Dma,
     out: &mut [u8; PAGE_SIZE],
 ) -> Result<(Board, SessionEnd), Dark>
-    ensures answer { result ≡ answer_of board image.now inputs.now nonce.now dma.old
+    ensures answer { wants_memory result ≡ false
+        → result ≡ answer_of board image.now inputs.now nonce.now dma.old
         (course board.memory.marks image.now inputs.now) }
-    ensures beside { LeavesBeside board image.now inputs.now nonce.now dma.old
+    ensures beside { wants_memory result ≡ false
+        → LeavesBeside board image.now inputs.now nonce.now dma.old
         (course board.memory.marks image.now inputs.now) dma.new out.new }
+    ensures memory { wants_memory result ≡ true
+        → WantsMemory board dma.old (course board.memory.marks image.now inputs.now) result dma.new out.new }
     ensures resume { HostFinds board dma.old result dma.new }
 {
     board_law(&board);

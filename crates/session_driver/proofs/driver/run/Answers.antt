@@ -1,12 +1,17 @@
-use Rattle.std.proofs.Common.{◌∙◌, ap, sym, subst, refl, arith, ℕ, length, Option, Result, Err}
+use Rattle.std.proofs.Common.{◌≡◌, ◌∙◌, ap, sym, subst, refl, arith, ℕ, length, List, Option, Some, None, Result, Err, Bool, true, false}
+use Rattle.std.specs.Prelude.{MatchOption}
+use Rattle.std.proofs.lemmas.Bool.{false≢true}
+use Rattle.flk_base.specs.Stop.{Fused}
+use Rattle.region_pool.specs.declared.mark.Mark.{Mark}
+use Rattle.region_pool.specs.Places.{HasNoPlace, IsLowestPlace}
 use Rattle.flk_base.specs.Plan.{Plan}
 use Rattle.region_pool.specs.Spans.{Span}
 use Rattle.region_pool.specs.Places.{place}
-use Rattle.region_pool.proofs.PlaceLemmas.{place-lowest, place-none}
+use Rattle.region_pool.proofs.PlaceLemmas.{place-lowest, place-none, place-cases}
 use Rattle.machine_memory.specs.Contents.{Contents}
 use Rattle.machine_memory.specs.Spans.{after_take}
 use Rattle.seal_device.specs.Commands.{Command, Reply}
-use Rattle.seal_device.specs.Digests.{on_device}
+use Rattle.seal_device.specs.Digests.{DigestDevice, on_device}
 use Rattle.late_launch.specs.Boards.{BoardParts, DarkParts, fused_device}
 use Rattle.late_launch.specs.Regions.{region_bytes}
 use Rattle.late_launch.specs.States.{has_image}
@@ -14,19 +19,47 @@ use Rattle.slb_core.specs.Pal.{PalEnd}
 use Rattle.session_driver.specs.declared.driver.SessionEnd.{SessionEnd}
 use Rattle.session_driver.specs.Sessions.{area_at}
 use Rattle.session_driver.specs.Filled.{filled, plan_at, answer_at}
+use Rattle.session_driver.specs.Answers.{RunsAt, wants_memory}
 use Rattle.session_driver.specs.Answers.{placed, answer_of, ended_leaves, LeavesBeside, ran_at}
 use Rattle.session_driver.proofs.Filling.{same_area, image_short, filled_board, holds, same_plan, same_answer}
 use Rattle.session_driver.proofs.driver.run.Goals as goal
 
 pub returns-in-Err-NoRoom-clause-answer : goal.returns-in-Err-NoRoom-clause-answer
-returns-in-Err-NoRoom-clause-answer c =
+returns-in-Err-NoRoom-clause-answer c = λ _.
     let none = place-none c.board.inside.memory.marks 18 16 (omega arith) (c.in-Err-NoRoom.ensures.no_room.0 (ap Err c.in-Err-NoRoom.field-0-is)) in
     rw (← c.board.view_is, none, c.in-Err-NoRoom.ensures.unchanged) refl
 
 pub returns-in-Err-NoRoom-clause-beside : goal.returns-in-Err-NoRoom-clause-beside
-returns-in-Err-NoRoom-clause-beside c =
+returns-in-Err-NoRoom-clause-beside c = λ _.
     let none = place-none c.board.inside.memory.marks 18 16 (omega arith) (c.in-Err-NoRoom.ensures.no_room.0 (ap Err c.in-Err-NoRoom.field-0-is)) in
     rw (← c.board.view_is, none) (record { armed = refl; outputs = c.requires.blank })
+
+-- where there is a place, a session would run
+place_found : (marks : List Mark) (found : Option ℕ) → MatchOption found (HasNoPlace marks 18 16) (IsLowestPlace marks 18 16) → ¬ HasNoPlace marks 18 16
+    → (first : ℕ) × (placed found ≡ RunsAt first)
+place_found marks None m some = absurd (some m)
+place_found marks (Some first) m some = (first, refl)
+
+pub returns-in-Err-NoMemory-clause-memory : goal.returns-in-Err-NoMemory-clause-memory
+returns-in-Err-NoMemory-clause-memory c = λ _.
+    let marks = c.board.inside.memory.marks in
+    let found = place_found marks (place marks 18 16) (place-cases marks 18 16 (omega arith))
+    (λ none. let clash = c.in-Err-NoMemory.ensures.no_room.1 none in cc) in
+    rw (← c.board.view_is) (record {
+      first = found.0;
+      runs = found.1;
+      answer = rw c.in-Err-NoMemory.ensures.unchanged refl;
+      leaves = record { armed = refl; outputs = c.requires.blank };
+    })
+
+-- a session that was run has an end
+wants-answer_at : (board : BoardParts) (area : Span) (ran : Fused DigestDevice × Option PalEnd) → wants_memory (answer_at board area ran) ≡ false
+wants-answer_at board area (before, None) = refl
+wants-answer_at board area (after, Some ended) = refl
+
+pub returns-in-Ok-clause-memory : goal.returns-in-Ok-clause-memory
+returns-in-Ok-clause-memory c = λ wants.
+    absurd (false≢true (sym (ap wants_memory c.run_in.ensures.answer ∙ wants-answer_at _ _ _) ∙ wants))
 
 pub fill-requires-clause-image : goal.fill-requires-clause-image
 fill-requires-clause-image c = image_short c.args.image.now c.requires.image
@@ -44,7 +77,7 @@ run_in-requires-clause-image c =
     ∙ held.found
 
 pub returns-in-Ok-clause-answer : goal.returns-in-Ok-clause-answer
-returns-in-Ok-clause-answer c =
+returns-in-Ok-clause-answer c = λ _.
     let board : BoardParts = record { device = c.board.inside.device; memory = c.board.inside.memory; registers = c.board.inside.registers; fuse = c.board.inside.fuse.left } in
     let image = c.args.image.now in
     let inputs = c.args.inputs.now in
@@ -67,7 +100,7 @@ returns-in-Ok-clause-answer c =
     ∙ ap (λ (b : BoardParts). answer_of b image inputs nonce writes (placed (place b.memory.marks 18 16))) c.board.view_is
 
 pub returns-in-Ok-clause-beside : goal.returns-in-Ok-clause-beside
-returns-in-Ok-clause-beside c =
+returns-in-Ok-clause-beside c = λ _.
     let board : BoardParts = record { device = c.board.inside.device; memory = c.board.inside.memory; registers = c.board.inside.registers; fuse = c.board.inside.fuse.left } in
     let image = c.args.image.now in
     let inputs = c.args.inputs.now in

@@ -1,16 +1,18 @@
-use Rattle.std.proofs.Common.{◌≡◌, length, refl, sym, ◌∙◌, arith, true, false}
-use Rattle.std.proofs.lemmas.Bool.{both_ways, eqb-false}
+use Rattle.std.proofs.Common.{◌≡◌, ℕ, List, length, refl, sym, ap, ◌∙◌, true, false}
+use Rattle.std.proofs.lemmas.Bool.{both_ways}
+use Rattle.std.proofs.lemmas.List.{with_items_is}
 use Rattle.machine_memory.specs.Contents.{IsMemory}
 use Rattle.machine_memory.specs.DeviceWrites.{may_write}
 use Rattle.machine_memory.proofs.DeviceLemmas.{may_write-false, false-may_write, shut-closed}
 use Rattle.machine_memory.proofs.DeviceLemmas.{closed-shut}
-use Rattle.machine_memory.proofs.MemoryLemmas.{size_by_bits, open_within, memory-device_write}
+use Rattle.machine_memory.proofs.MemoryLemmas.{size_by_bits, open-taken, memory-device_done}
+use Rattle.machine_memory.proofs.InBlocks.{in-written}
 use Rattle.machine_memory.proofs.Inside.{contents_of}
 use Rattle.machine_memory.proofs.memory.Memory.dev_write.Goals as goal
 
 pub returns-then-not-may_write-clause-blocked : goal.returns-then-not-may_write-clause-blocked
 returns-then-not-may_write-clause-blocked c =
-    let memory : IsMemory c.args.self.now = rw (← c.self.view_is) c.self.invariant in
+    let memory : IsMemory c.args.self.now = rw (← c.self.view_is) c.self.invariant.memory in
     let bits : c.deref.result.now ≡ c.args.self.now.excluded = cc in
     let shut : may_write c.args.self.now.excluded c.args.at (length c.args.bytes.now) ≡ false =
     rw (← bits) (sym c.may_write.ensures ∙ c.if-not-may_write.true) in (
@@ -19,31 +21,32 @@ returns-then-not-may_write-clause-blocked c =
       λ s. refl,
     )
 
-pub write_at-requires : goal.write_at-requires
-write_at-requires c =
-    let memory = contents_of c.self.inside in
+pub write_spans-requires-clause-taken : goal.write_spans-requires-clause-taken
+write_spans-requires-clause-taken c =
     let open' : may_write c.self.inside.excluded.items c.args.at (length c.args.bytes.now) ≡ true =
     rw (← c.deref.ensures.value) (sym c.may_write.ensures ∙ c.if-not-may_write.false) in
-    let some = eqb-false (length c.args.bytes.now) 0
-    (sym c.is_empty.ensures ∙ c.if-not-is_empty.true) in
-    let within =
-    open_within memory c.args.at (length c.args.bytes.now) c.self.invariant (omega arith)
-    open' in
-    omega (arith, c.self.inside.bytes.items.ok.0)
+    λ address l h. open-taken (contents_of c.self.inside) c.args.at (length c.args.bytes.now) address
+    c.self.invariant.memory open' l h
 
 pub invariant_of-self : goal.invariant_of-self
 invariant_of-self c =
-    let memory = contents_of c.self.inside in
     let open' : may_write c.self.inside.excluded.items c.args.at (length c.args.bytes.now) ≡ true =
     rw (← c.deref.ensures.value) (sym c.may_write.ensures ∙ c.if-not-may_write.false) in
-    let some = eqb-false (length c.args.bytes.now) 0
-    (sym c.is_empty.ensures ∙ c.if-not-is_empty.true) in
-    rw c.write_at.ensures
-    (memory-device_write memory c.args.at c.args.bytes.now c.self.invariant (omega arith) open')
+    let blocks = c.self.inside.blocks in
+    let now = c.write_spans.new.blocks in
+    let value = c.deref_mut.ensures.value in
+    let long : length now ≡ blocks.len =
+    c.write_spans.auto.blocks ∙ ap (λ (xs : List (List ℕ)). length xs) value ∙ sym blocks.ok.0 in
+    rw (with_items_is blocks now long)
+    (in-written c.self.inside.pool c.self.inside.excluded.items blocks.items now c.args.at
+    c.args.bytes.now
+    (record { has = c.write_spans.ensures.sound; bytes = rw value at c.write_spans.ensures.written })
+    (memory-device_done (contents_of c.self.inside) c.args.at c.args.bytes.now
+    c.self.invariant.memory open'))
 
-pub returns-then-not-is_empty-clause-blocked : goal.returns-then-not-is_empty-clause-blocked
-returns-then-not-is_empty-clause-blocked c =
-    let memory : IsMemory c.args.self.now = rw (← c.self.view_is) c.self.invariant in
+pub returns-clause-blocked : goal.returns-clause-blocked
+returns-clause-blocked c =
+    let memory : IsMemory c.args.self.now = rw (← c.self.view_is) c.self.invariant.memory in
     let bits : c.deref.result.now ≡ c.args.self.now.excluded = cc in
     let open' : may_write c.args.self.now.excluded c.args.at (length c.args.bytes.now) ≡ true =
     rw (← bits) (sym c.may_write.ensures ∙ c.if-not-may_write.false) in (

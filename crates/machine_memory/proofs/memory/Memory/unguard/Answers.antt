@@ -7,11 +7,13 @@ use Rattle.machine_memory.proofs.memory.Memory.unguard.Goals as goal
 
 pub invariant_of-self : goal.invariant_of-self
 invariant_of-self c =
-    let memory = contents_of c.self.inside in
     let held : Holds c.self.inside.pool c.args.area.now =
     rw (ap (λ (m : Contents). m.marks) c.self.view_is) c.requires.held in
     let frames = c.requires.frames in
     let few = c.frames_of_region.ensures.few in
     rw (c.exclude_at.ensures, c.first-first.ensures)
-    (memory-span_bits memory c.args.area.now c.frames_of_region.result false c.self.invariant
-    held (omega arith))
+    (record {
+      memory = memory-span_bits (contents_of c.self.inside) c.args.area.now
+          c.frames_of_region.result false c.self.invariant.memory held (omega arith);
+      has = c.self.invariant.has;
+    })

@@ -31,14 +31,14 @@ use denote.Triple.Table.{framed}
 use denote.Triple.Walked.{says, Stays, stay_dropped, Goes-dropped, Goes-spent_ref, ends_at}
 use Rattle.machine_memory.specs.Writes.{lent_back}
 use Rattle.machine_memory.specs.LentParts.{with_others}
-use Rattle.machine_memory.specs.contracts.bytes.Bytes.{the_row as R}
-use Rattle.machine_memory.specs.contracts.bytes.Bytes.part as f
-use Rattle.machine_memory.specs.contracts.bytes.Bytes.whole as whole
-use Rattle.machine_memory.specs.contracts.bytes.part_of as part
-use Rattle.machine_memory.proofs.bytes.Bytes.whole.Met.{met as whole_met}
-use Rattle.machine_memory.proofs.bytes.part_of.Met.{met as part_met}
-use Rattle.machine_memory.proofs.bytes.Bytes.part.Statement.{statement}
-use Rattle.machine_memory.proofs.bytes.Bytes.part.Code as code
+use Rattle.machine_memory.specs.contracts.block.Block.{the_row as R}
+use Rattle.machine_memory.specs.contracts.block.Block.part as f
+use Rattle.machine_memory.specs.contracts.block.Block.whole as whole
+use Rattle.machine_memory.specs.contracts.block.part_of as part
+use Rattle.machine_memory.proofs.block.Block.whole.Met.{met as whole_met}
+use Rattle.machine_memory.proofs.block.part_of.Met.{met as part_met}
+use Rattle.machine_memory.proofs.block.Block.part.Statement.{statement}
+use Rattle.machine_memory.proofs.block.Block.part.Code as code
 
 abbrev stayed : Stays f.ended.signature.params f.ended.kept
 stayed = (
@@ -61,7 +61,7 @@ part_spec 𝓤 𝓛 𝓜 𝓡 wired =
     (λ κs. (mut_Tells (named 0) κs.0 R, (uint_Tells w64, (uint_Tells w64, tt))))
     (λ κs qs bounds a _ are.
     let κ = κs.0 in let q = qs.0 in let x = a.0 in let i = a.1.0 in let n = a.1.1.0 in
-    let Inside : Type 0 = i + n ≤ length x.now.items.items in
+    let Inside : Type 0 = i + n ≤ length x.now in
     let G₁ = triple_of 𝓛 whole.signature (whole.spec 𝓛 𝓜.mem 𝓡.returns) in
     let z₁ : G₁.Ghost = (((κ, tt), (q, tt), tt, (x, tt), (mut_vals x, tt)), tt) in
     let G₂ = triple_of 𝓛 part.signature (part.spec 𝓛 𝓜.mem 𝓡.returns) in
@@ -77,17 +77,17 @@ part_spec 𝓤 𝓛 𝓜 𝓡 wired =
     nothing ! $ move ! (1 ∷ 0 ∷ []) $ join ! $ move ! (2 ∷ 0 ∷ []) $ join ! $ nothing ! $ move !
     (1 ∷ 0 ∷ []) $ use2 𝓛 (raw (G₁.pre z₁)) (id⊢ 𝓤 _) $
     calls_at ! (framed 𝓤 𝓛.H 𝓜 (tables 𝓤 𝓛.H 𝓜 𝓡 𝓡.env)) G₁
-    (whole_met 𝓤 𝓛 𝓜 𝓡 (code.calls-machine_memory::bytes::Bytes::whole 𝓡.env wired)) z₁
+    (whole_met 𝓤 𝓛 𝓜 𝓡 (code.calls-machine_memory::block::Block::whole 𝓡.env wired)) z₁
     (and_then ! (get ! refl) (no_more !)) (λ v.
     use1 𝓛 (later
     (some (λ (r : MutBor (List ℕ)).
     ((‵ (flft κ q) ⊛ ‵ ftrue) ⊛ ‵ ((MutSlice (named 0) κ u8).own_val r (v ∷ []))) ⊛
     some (λ (ws : Unit {0} × Unit {0}). ‵ (lasts whole.ended (κ, tt) (x, tt) ws) ⊛
     (‵ (follows R (Array u8 0) x.ghost_name r.ghost_name (with_others x.now)) ⊛ raw
-    (fact 𝓤 (r.now ≡ x.now.items.items))))))) (id⊢ 𝓤 _) $
+    (fact 𝓤 (r.now ≡ x.now))))))) (id⊢ 𝓤 _) $
     await ! tt $ pick !
     (λ r. split ! $ split ! $ move ! (2 ∷ []) $ pick !
-    (λ ws. split ! $ drop ! $ split ! $ move ! (1 ∷ []) $ heard ! (r.now ≡ x.now.items.items)
+    (λ ws. split ! $ drop ! $ split ! $ move ! (1 ∷ []) $ heard ! (r.now ≡ x.now)
     (λ is.
     -- [what the bytes follow; the token; the whole slice; the two numbers; the locals]
     move ! (2 ∷ []) $ fsplit ! $ pure_l ! (mut_slice_at u8 r (v ∷ [])) (λ known.
@@ -110,7 +110,7 @@ part_spec 𝓤 𝓛 𝓜 𝓡 wired =
     use0 𝓛 (raw (fact 𝓤 Fits)) (fact_i 𝓤 Fits (emp 𝓤) fits) $ move ! (1 ∷ 0 ∷ []) $ use2 𝓛
     (raw (G₂.pre z₂)) (id⊢ 𝓤 _) $
     calls_at ! (framed 𝓤 𝓛.H 𝓜 (tables 𝓤 𝓛.H 𝓜 𝓡 𝓡.env)) G₂
-    (part_met 𝓤 𝓛 𝓜 𝓡 (code.calls-machine_memory::bytes::part_of 𝓡.env wired)) z₂
+    (part_met 𝓤 𝓛 𝓜 𝓡 (code.calls-machine_memory::block::part_of 𝓡.env wired)) z₂
     (and_then ! (get ! refl) (and_then ! (get ! refl) (and_then ! (get ! refl) (no_more !))))
     (λ v'.
     use1 𝓛 (later

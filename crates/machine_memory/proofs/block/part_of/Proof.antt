@@ -37,10 +37,10 @@ use denote.Triple.Walked.{Goes-spent_slice, walk_Meets}
 use Rattle.machine_memory.proofs.PartLent.{part_lent, lends_part}
 use Rattle.machine_memory.specs.Writes.{lent_back}
 use Rattle.machine_memory.proofs.Pieces.{lent_back-long}
-use Rattle.machine_memory.specs.contracts.bytes.part_of.Key.{name as #self}
-use Rattle.machine_memory.specs.contracts.bytes.part_of as part
-use Rattle.machine_memory.proofs.bytes.part_of.Statement as stated
-use Rattle.machine_memory.proofs.bytes.part_of.Code as code
+use Rattle.machine_memory.specs.contracts.block.part_of.Key.{name as #self}
+use Rattle.machine_memory.specs.contracts.block.part_of as part
+use Rattle.machine_memory.proofs.block.part_of.Statement as stated
+use Rattle.machine_memory.proofs.block.part_of.Code as code
 
 -- nothing is left of the slice and of the two numbers
 abbrev stayed : Stays (part.ended).signature.params (part.ended).kept
