@@ -1,6 +1,6 @@
 -- That a session which the driver ran is a step of the platform by digests.
 use Rattle.std.proofs.Common.{◌≡◌, ℕ, ◌+◌, ◌-◌, ◌<◌, ◌≤◌, Bool, true, false, not, ◌||◌, eqb, List, [], length, take, replicate, get_or, refl, sym, ap, subst, ◌∙◌, inl, inr, arith, Some, None, slice_get}
-use Rattle.std.specs.Prelude.{nat_lt, Option, Result, Ok, Err, MatchOption}
+use Rattle.std.specs.Prelude.{nat_lt, Option, Result, Ok, Err, IfOk, MatchOption}
 use Rattle.std.proofs.Math.Path.{fun_ext}
 use Rattle.std.proofs.Math.Seq.{take-append_seam}
 use Rattle.std.specs.List.{range_with_len}
@@ -39,8 +39,9 @@ use Rattle.slb_core.specs.Pal.{Permits, PalEnd}
 use Rattle.slb_core.specs.Reports.{count_of}
 use Rattle.slb_core.specs.Services.{longest_outputs}
 use Rattle.session_driver.specs.Sessions.{area_at, permits_in, setting_in, setting_with, session_plan}
-use Rattle.session_driver.specs.Answers.{Course, IsRefused, RunsAt, Refusal, IsNoImage, HasLongInputs, HasNoPlace as NoArea, course, course_at, placed, ran_at, board_after, ended_answer, answer_of, ended_leaves, LeavesBeside}
+use Rattle.session_driver.specs.Answers.{Course, IsRefused, RunsAt, Refusal, IsNoImage, HasLongInputs, HasNoPlace as NoArea, course, course_at, placed, ran_at, board_after, ended_answer, answer_of, ended_leaves, LeavesBeside, is_out_of_memory}
 use Rattle.session_driver.specs.declared.driver.SessionEnd.{SessionEnd}
+use Rattle.session_driver.specs.declared.driver.SessionEnd.TheVariants as ends
 use Rattle.flk_run.specs.declared.answers.Refusal.TheVariants.{PowerLost}
 use Rattle.flk_run.specs.declared.disk.SimDisk.{SimDisk}
 use Rattle.flk_run.specs.Answers.{Answer, Ended, Refused}
@@ -305,6 +306,28 @@ module _ (board : BoardParts) (spans : List Span) (image inputs nonce : List ℕ
       ap (λ (r : Result (BoardParts × SessionEnd) DarkParts). stepped r left out) is
       ∙ course_step (pool_place board.memory.marks 18 16) (image_fault image) (place-cases board.memory.marks 18 16 (omega arith)) left out leaves
       ∙ ap by_course (sym same_course)
+
+-- ---- where memory ran out
+
+-- it did not, where the session ended in another way
+pub has_memory : (board : BoardParts) (end : SessionEnd) → (end ≡ ends.NoMemory → ⊥)
+    → is_out_of_memory (Ok (board, end)) ≡ false
+has_memory board ends.NoMemory other = absurd (other refl)
+has_memory board ends.NoPlace other = refl
+has_memory board (ends.BadImage fault) other = refl
+has_memory board ends.LongInput other = refl
+has_memory board (ends.Ended end turns) other = refl
+
+-- what follows from an answer follows where there is one
+pub where_answered : {T E : Type 0} (r : Result T E) (Fact : T → Type 0) → ((answer : T) → r ≡ Ok answer → Fact answer)
+    → IfOk r Fact
+where_answered (Ok answer) Fact each = each answer refl
+where_answered (Err error) Fact each = tt
+
+-- and what holds where there is an answer holds of the one that there is
+pub of_answer : {T E : Type 0} (r : Result T E) (answer : T) (Fact : T → Type 0) → r ≡ Ok answer → IfOk r Fact
+    → Fact answer
+of_answer {T} {E} r answer Fact is fact = subst (λ (r : Result T E). IfOk r Fact) is fact
 
 -- ---- what it keeps
 

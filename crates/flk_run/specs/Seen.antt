@@ -89,10 +89,13 @@ abbrev pub takes : Task → Bool
 takes (Take frames) = true
 takes _ = false
 
--- a task arms a device write
-abbrev pub arms : Task → Bool
-arms (Arm turn at bytes) = true
-arms _ = false
+-- a task may run out of memory while it is done: one that arms a device write, takes a span, or runs
+-- a session
+abbrev pub may_run_out : Task → Bool
+may_run_out (Arm turn at bytes) = true
+may_run_out (Take frames) = true
+may_run_out (RunSession image inputs nonce var) = true
+may_run_out _ = false
 
 -- the answer, with bytes in place of what holds them
 abbrev pub seen_answer : HeldAnswer → Answer

@@ -7,13 +7,15 @@ use Rattle.slb_core.specs.Reports.{count_of}
 use Rattle.session_driver.specs.declared.driver.SessionEnd.{SessionEnd}
 use Rattle.session_driver.specs.declared.driver.SessionEnd.TheVariants as end
 use Rattle.flk_run.specs.declared.answers.Refusal.TheVariants.{NoImage, NoInput, NoPlace}
-use Rattle.flk_run.specs.Answers.{Answer, Shows, Ended, Refused}
+use Rattle.flk_run.specs.Answers.{Answer, Quiet, Shows, Ended, Refused}
 
--- the answer to an end, after which the armed writes are these, and the output page is this
+-- the answer to an end, after which the armed writes are these, and the output page is this; there is
+-- none where memory ran out
 abbrev pub answer_to_end : SessionEnd → List Armed → List ℕ → Answer
 answer_to_end end.NoPlace writes out = Refused NoPlace
 answer_to_end (end.BadImage fault) writes out = Refused (NoImage fault)
 answer_to_end end.LongInput writes out = Refused NoInput
+answer_to_end end.NoMemory writes out = Quiet
 answer_to_end (end.Ended how turns) writes out = Ended (record {
   end = how;
   turns = turns;

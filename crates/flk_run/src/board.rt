@@ -1,5 +1,5 @@
 // What the host does to the memory of a board.
-ghost use Rattle.std.specs.Prelude.{◌≡◌, ◌≢◌, ◌≤◌, length, IfOk, OnOk, OnErr, MatchResult};
+ghost use Rattle.std.specs.Prelude.{◌≡◌, ◌≢◌, ◌≤◌, length, IfOk, OnOk, OnErr, IsErrOf, MatchResult};
 ghost use Rattle.region_pool.specs.Places.{HasNoPlace};
 ghost use Rattle.region_pool.specs.Spans.{Span, Holds};
 ghost use Rattle.machine_memory.specs.Writes.{part};
@@ -10,21 +10,17 @@ ghost use Rattle.flk_run.specs.Taking.{Took};
 
 use late_launch::Board;
 use machine_memory::{DevEnd, NotTaken, TakeFault};
-use region_pool::{NoRoom, Purpose, Ticket};
+use region_pool::{Purpose, Ticket};
 
 /// Takes a span of so many frames for the host, at the lowest place. Its bytes are zero.
-pub(crate) fn take(board: &mut Board, frames: u32) -> Result<Ticket, NoRoom>
+pub(crate) fn take(board: &mut Board, frames: u32) -> Result<Ticket, TakeFault>
     requires { 1 ≤ frames }
     ensures took { IfOk result (λ ticket. Took frames board.old.memory board.new.memory ticket) }
-    ensures refused { OnErr result (HasNoPlace board.old.memory.marks frames 1) }
+    ensures refused { IsErrOf result TakeFault.NoRoom → HasNoPlace board.old.memory.marks frames 1 }
     ensures device { KeepsDevice board.old board.new }
     ensures err { OnErr result (board.new ≡ board.old) }
 {
-    match board.memory.take(frames, 1, Purpose::Host) {
-        Ok(ticket) => Ok(ticket),
-        Err(TakeFault::NoRoom) => Err(NoRoom),
-        Err(TakeFault::NoMemory) => unreachable!(),
-    }
+    board.memory.take(frames, 1, Purpose::Host)
 }
 
 /// Gives a span back: its bytes become zero.

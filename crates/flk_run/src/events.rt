@@ -7,7 +7,7 @@ ghost use Rattle.flk_run.specs.declared.disk.SimDisk.{SimDisk as DiskView};
 ghost use Rattle.flk_run.specs.Answers.{room_of};
 ghost use Rattle.flk_run.specs.Events.{task_step};
 ghost use Rattle.flk_run.specs.Parts.{platform_with};
-ghost use Rattle.flk_run.specs.Seen.{seen_task, seen_answer, binds, takes, arms, IsNamed, IsRoom, HasRoom, HasShortOutputs, IsShortShown};
+ghost use Rattle.flk_run.specs.Seen.{seen_task, seen_answer, binds, takes, may_run_out, IsNamed, IsRoom, HasRoom, HasShortOutputs, IsShortShown};
 ghost use Rattle.flk_run.specs.Tasks.{room, MayAllocate};
 ghost use Rattle.flk_run.specs.Sessions.{table_after, table_with, shown_in};
 ghost use Rattle.flk_run.specs.declared.answers.TheConstants.{REGISTER_ROOM, SESSION_ROOM, UNSEAL_ROOM};
@@ -20,7 +20,7 @@ use flk_base::{Bytes, NoMemory};
 use script_text::Vars;
 
 /// Does a task, for whose name, ticket and outputs there is room. Where memory runs out, as it may for
-/// a write that is armed, nothing is done.
+/// a write that is armed and for the bytes of a span or of a session's area, nothing is done.
 pub(crate) fn perform(
     host: Host,
     vars: &mut Vars,
@@ -43,6 +43,8 @@ pub(crate) fn perform(
 {
     match task {
         Task::Arm { turn, at, bytes } => return host.arm(turn, at, bytes.as_slice()),
+        Task::Take { frames } => return host.take(frames),
+        Task::RunSession(session) => return run_session(host, vars, session),
         task => {
             let (host, answer) = done(host, vars, task);
             return (host, Ok(answer));
@@ -56,7 +58,7 @@ fn done(host: Host, vars: &mut Vars, task: Task<'_>) -> (Host, Answer)
     requires room { HasRoom task }
     requires name { binds (seen_task task) ≡ true → 1 ≤ vars.old.spare }
     requires ticket { takes (seen_task task) ≡ true → 1 ≤ host.spare }
-    requires unarmed { arms (seen_task task) ≡ false }
+    requires never { may_run_out (seen_task task) ≡ false }
     ensures untaken { result.0.untaken ≡ host.untaken }
     ensures done { host.untaken ≡ true → (disk : DiskView) →
         (platform_with result.0.armed result.0.board result.0.spans disk vars.new.table, seen_answer result.1)
@@ -80,15 +82,13 @@ fn done(host: Host, vars: &mut Vars, task: Task<'_>) -> (Host, Answer)
             vars.put(name, image);
             return (host, Answer::Counts(length));
         }
-        Task::Take { frames } => return host.take(frames),
+        Task::Take { .. } | Task::RunSession(_) | Task::Arm { .. } => unreachable!(),
         Task::Give { at } => return host.give(at),
         Task::Poke { at, bytes } => return host.poke(at, bytes.as_slice()),
         Task::Peek { at, bytes } => return host.peek(at, bytes),
         Task::Dma { at, bytes } => return host.dma(at, bytes.as_slice()),
         Task::SetRegister { reg, n } => return host.set_register(reg, n),
         Task::ShowRegisters => return host.show_registers(),
-        Task::Arm { .. } => unreachable!(),
-        Task::RunSession(session) => return run_session(host, vars, session),
         Task::Seed { seed } => return host.seed(seed.as_slice()),
         Task::Unseal(unseal) => return run_unseal(host, vars, unseal),
         Task::ReadCounter { id } => return host.read_counter(id),
@@ -97,17 +97,23 @@ fn done(host: Host, vars: &mut Vars, task: Task<'_>) -> (Host, Answer)
 }
 
 // Runs a session, and binds its name to the outputs, where it has one and the session ended.
-fn run_session(host: Host, vars: &mut Vars, session: SessionTask<'_>) -> (Host, Answer)
+fn run_session(
+    host: Host,
+    vars: &mut Vars,
+    session: SessionTask<'_>,
+) -> (Host, Result<Answer, NoMemory>)
     requires named { IsNamed (seen_task (HeldTask.RunSession session)) }
     requires room { HasRoom (HeldTask.RunSession session) }
     requires name { binds (seen_task (HeldTask.RunSession session)) ≡ true → 1 ≤ vars.old.spare }
     ensures untaken { result.0.untaken ≡ host.untaken }
-    ensures done { host.untaken ≡ true → (disk : DiskView) →
-        (platform_with result.0.armed result.0.board result.0.spans disk vars.new.table, seen_answer result.1)
+    ensures done { IfOk result.1 (λ answer. host.untaken ≡ true → (disk : DiskView) →
+        (platform_with result.0.armed result.0.board result.0.spans disk vars.new.table, seen_answer answer)
         ≡ task_step digests (seen_task (HeldTask.RunSession session.entry))
-        (platform_with host.armed host.board host.spans disk vars.old.table) }
-    ensures fits { room_of (seen_answer result.1) ≤ SESSION_ROOM }
-    ensures short { HasShortOutputs (seen_answer result.1) }
+        (platform_with host.armed host.board host.spans disk vars.old.table)) }
+    ensures fits { IfOk result.1 (λ answer. room_of (seen_answer answer) ≤ SESSION_ROOM) }
+    ensures short { IfOk result.1 (λ answer. HasShortOutputs (seen_answer answer)) }
+    ensures kept { OnErr result.1 (result.0 ≡ host) }
+    ensures table { OnErr result.1 (vars.new.table ≡ vars.old.table) }
 {
     let SessionTask {
         image,
@@ -117,10 +123,15 @@ fn run_session(host: Host, vars: &mut Vars, session: SessionTask<'_>) -> (Host, 
         bound,
     } = session;
     let (host, answer) = host.session(image.as_slice(), inputs.as_slice(), &nonce, outputs);
-    if let Some(Bound { name, value }) = bound {
-        bind_outputs(vars, name, value, &answer);
+    match answer {
+        Ok(answer) => {
+            if let Some(Bound { name, value }) = bound {
+                bind_outputs(vars, name, value, &answer);
+            }
+            return (host, Ok(answer));
+        }
+        Err(NoMemory) => return (host, Err(NoMemory)),
     }
-    (host, answer)
 }
 
 // Unseals a blob, and binds its name to what was sealed in it, where it has one and the blob opened.

@@ -1,5 +1,5 @@
 // What the host does with a board: events without expressions.
-ghost use Rattle.std.specs.Prelude.{◌≡◌, ◌+◌, ◌*◌, ◌≤◌, length, slice_set, take, true, None, OnOk, OnErr, IfOk};
+ghost use Rattle.std.specs.Prelude.{◌≡◌, ◌↔◌, IsErr, ◌+◌, ◌*◌, ◌≤◌, length, slice_set, take, true, None, OnOk, OnErr, IfOk};
 ghost use Rattle.flk_run.specs.Answers.{room_of};
 ghost use Rattle.flk_run.specs.Seen.{Steps, seen_answer, HasShortOutputs, IsShortShown, IsRoom};
 ghost use Rattle.flk_run.specs.Sessions.{answer_to_end, armed_after};
@@ -15,7 +15,7 @@ use crate::spans::{Spans, keep, room_for_ticket, ticket_at};
 use flk_base::{Bytes, NoMemory};
 use i386_profile::Cpu;
 use late_launch::{Board, End};
-use machine_memory::{DevEnd, Dma, Memory, frame_law};
+use machine_memory::{DevEnd, Dma, Memory, TakeFault, frame_law};
 use region_pool::Ticket;
 use seal_device::{
     CounterFault, LONGEST_SEALED, Provisioned, RandomFault, RegisterFault, UnsealFault,
@@ -219,24 +219,28 @@ impl Host {
         }
     }
 
-    /// Takes a span of so many frames, for whose ticket there is room.
-    pub(crate) fn take(self, frames: u32) -> (Host, Answer)
+    /// Takes a span of so many frames, for whose ticket there is room. Where memory runs out for its
+    /// bytes, nothing is done.
+    pub(crate) fn take(self, frames: u32) -> (Host, Result<Answer, NoMemory>)
         requires { 1 ≤ self.spare }
         ensures untaken { result.0.untaken ≡ self.untaken }
-        ensures steps { self.untaken ≡ true → Steps (Take frames) self result.0 result.1 }
-        ensures fits { room_of (seen_answer result.1) ≤ REGISTER_ROOM }
+        ensures steps { IfOk result.1
+            (λ answer. self.untaken ≡ true → Steps (Take frames) self result.0 answer) }
+        ensures fits { IfOk result.1 (λ answer. room_of (seen_answer answer) ≤ REGISTER_ROOM) }
+        ensures kept { OnErr result.1 (result.0 ≡ self) }
     {
         if frames == 0 {
-            return (self, Answer::Refused(Refusal::NoRoom));
+            return (self, Ok(Answer::Refused(Refusal::NoRoom)));
         }
         let mut host = self;
         match take(&mut host.board, frames) {
             Ok(ticket) => {
                 let address = 4096 * ticket.first() as usize;
                 keep(&mut host.tickets, ticket);
-                return (host, Answer::Counts(address));
+                return (host, Ok(Answer::Counts(address)));
             }
-            Err(_) => return (host, Answer::Refused(Refusal::NoRoom)),
+            Err(TakeFault::NoRoom) => return (host, Ok(Answer::Refused(Refusal::NoRoom))),
+            Err(TakeFault::NoMemory) => return (host, Err(NoMemory)),
         }
     }
 
@@ -334,20 +338,22 @@ impl Host {
         }
     }
 
-    /// Runs a session, for whose outputs there is room.
+    /// Runs a session, for whose outputs there is room. Where memory runs out for the area's bytes,
+    /// nothing is done.
     pub(crate) fn session(
         self,
         image: &[u8],
         inputs: &[u8],
         nonce: &[u8; 20],
         outputs: Bytes,
-    ) -> (Host, Answer)
+    ) -> (Host, Result<Answer, NoMemory>)
         requires { IsRoom outputs }
         ensures untaken { result.0.untaken ≡ self.untaken }
-        ensures steps { self.untaken ≡ true
-            → Steps (RunSession image.now inputs.now nonce.now None) self result.0 result.1 }
-        ensures fits { room_of (seen_answer result.1) ≤ SESSION_ROOM }
-        ensures short { HasShortOutputs (seen_answer result.1) }
+        ensures steps { IfOk result.1 (λ answer. self.untaken ≡ true
+            → Steps (RunSession image.now inputs.now nonce.now None) self result.0 answer) }
+        ensures fits { IfOk result.1 (λ answer. room_of (seen_answer answer) ≤ SESSION_ROOM) }
+        ensures short { IfOk result.1 (λ answer. HasShortOutputs (seen_answer answer)) }
+        ensures kept { OnErr result.1 (result.0 ≡ self) }
     {
         let Host {
             board,
@@ -375,7 +381,7 @@ impl Host {
                     armed,
                     found,
                 };
-                return (host, Answer::Refused(Refusal::PowerLost));
+                return (host, Ok(Answer::Refused(Refusal::PowerLost)));
             }
         }
     }
@@ -391,22 +397,25 @@ fn put_register(registers: &mut Cpu, reg: u8, n: u32)
     }
 }
 
-// What a session is answered: where it ended, no write stays armed.
+// What a session is answered, where memory did not run out: where it ended, no write stays armed.
 fn session_answer(
     end: SessionEnd,
     armed: &mut Dma,
     out: &[u8; LONGEST_OUTPUTS],
     outputs: Bytes,
-) -> Answer
+) -> Result<Answer, NoMemory>
     requires { IsRoom outputs }
-    ensures answer { seen_answer result ≡ answer_to_end end armed.old out.now }
+    ensures answer { IfOk result
+        (λ answer. seen_answer answer ≡ answer_to_end end armed.old out.now) }
     ensures armed { armed.new ≡ armed_after end armed.old }
-    ensures short { HasShortOutputs (seen_answer result) }
+    ensures short { IfOk result (λ answer. HasShortOutputs (seen_answer answer)) }
+    ensures memory { IsErr result ↔ (end ≡ SessionEnd.NoMemory) }
 {
     match end {
-        SessionEnd::NoPlace => return Answer::Refused(Refusal::NoPlace),
-        SessionEnd::BadImage(fault) => return Answer::Refused(Refusal::NoImage(fault)),
-        SessionEnd::LongInput => return Answer::Refused(Refusal::NoInput),
+        SessionEnd::NoMemory => return Err(NoMemory),
+        SessionEnd::NoPlace => return Ok(Answer::Refused(Refusal::NoPlace)),
+        SessionEnd::BadImage(fault) => return Ok(Answer::Refused(Refusal::NoImage(fault))),
+        SessionEnd::LongInput => return Ok(Answer::Refused(Refusal::NoInput)),
         SessionEnd::Ended { end, turns } => {
             let mut outputs = outputs;
             outputs.put(outputs_of(end, out));
@@ -419,7 +428,7 @@ fn session_answer(
                 outputs,
             };
             armed.clear();
-            return Answer::Ended(over);
+            return Ok(Answer::Ended(over));
         }
     }
 }

@@ -105,12 +105,12 @@ LeavesBeside board image inputs nonce writes (RunsAt first) left given =
 -- ---- where there is no memory for the area
 
 -- whether a session answered so
-abbrev pub wants_memory : Result (BoardParts × SessionEnd) DarkParts → Bool
-wants_memory (Ok (after, NoMemory)) = true
-wants_memory other = false
+abbrev pub is_out_of_memory : Result (BoardParts × SessionEnd) DarkParts → Bool
+is_out_of_memory (Ok (after, NoMemory)) = true
+is_out_of_memory other = false
 
 -- what is true where it did: it would have run, and all is as it was
-pub record WantsMemory (board : BoardParts) (writes : List Armed) (course : Course) (result : Result (BoardParts × SessionEnd) DarkParts) (left : List Armed) (given : List ℕ) : Type 0 where
+pub record OutOfMemory (board : BoardParts) (writes : List Armed) (course : Course) (result : Result (BoardParts × SessionEnd) DarkParts) (left : List Armed) (given : List ℕ) : Type 0 where
   pub first : ℕ
   pub runs : course ≡ RunsAt first
   pub answer : result ≡ Ok (board, NoMemory)

@@ -15,7 +15,7 @@ ghost use Rattle.session_driver.specs.Sessions.{area_frames, area_alignment};
 ghost use Rattle.session_driver.specs.Filled.{filled, plan_at, answer_at};
 ghost use Rattle.session_driver.specs.Resume.{HostFinds};
 ghost use Rattle.session_driver.specs.Answers.{placed, course, answer_of, no_outputs, ended_leaves, LeavesBeside};
-ghost use Rattle.session_driver.specs.Answers.{wants_memory, WantsMemory};
+ghost use Rattle.session_driver.specs.Answers.{is_out_of_memory, OutOfMemory};
 
 use late_launch::{Board, Dark, End, LaunchEnd};
 use machine_memory::{Dma, Memory, NotTaken, REGION_FRAMES, TakeFault, frame_law};
@@ -149,14 +149,14 @@ fn run(
     requires image { image_fault image.now ≡ None }
     requires short { length inputs.now ≤ 4096 }
     requires blank { out.old ≡ no_outputs }
-    ensures answer { wants_memory result ≡ false
+    ensures answer { is_out_of_memory result ≡ false
         → result ≡ answer_of board image.now inputs.now nonce.now dma.old
         (placed (place board.memory.marks area_frames area_alignment)) }
-    ensures beside { wants_memory result ≡ false
+    ensures beside { is_out_of_memory result ≡ false
         → LeavesBeside board image.now inputs.now nonce.now dma.old
         (placed (place board.memory.marks area_frames area_alignment)) dma.new out.new }
-    ensures memory { wants_memory result ≡ true
-        → WantsMemory board dma.old (placed (place board.memory.marks area_frames area_alignment)) result dma.new out.new }
+    ensures memory { is_out_of_memory result ≡ true
+        → OutOfMemory board dma.old (placed (place board.memory.marks area_frames area_alignment)) result dma.new out.new }
 {
     let mut board = board;
     frame_law(&board.memory);
@@ -175,7 +175,7 @@ fn run(
 
 /// One session of an image with these inputs and this nonce. The outputs come to `out`, and zeros after them; it is
 /// all zero where the session does not end, or was not begun. A refusal leaves the board and the armed writes, and so
-/// does want of memory, which may be answered in place of a session that would run. After
+/// does running out of memory, which may be answered in place of a session that would run. After
 /// a session that ended, however it did, the host finds its registers as they were, and its memory, but for what the
 /// devices wrote that were permitted to.
 ///
@@ -190,14 +190,14 @@ pub fn session(
     dma: &mut Dma,
     out: &mut [u8; PAGE_SIZE],
 ) -> Result<(Board, SessionEnd), Dark>
-    ensures answer { wants_memory result ≡ false
+    ensures answer { is_out_of_memory result ≡ false
         → result ≡ answer_of board image.now inputs.now nonce.now dma.old
         (course board.memory.marks image.now inputs.now) }
-    ensures beside { wants_memory result ≡ false
+    ensures beside { is_out_of_memory result ≡ false
         → LeavesBeside board image.now inputs.now nonce.now dma.old
         (course board.memory.marks image.now inputs.now) dma.new out.new }
-    ensures memory { wants_memory result ≡ true
-        → WantsMemory board dma.old (course board.memory.marks image.now inputs.now) result dma.new out.new }
+    ensures memory { is_out_of_memory result ≡ true
+        → OutOfMemory board dma.old (course board.memory.marks image.now inputs.now) result dma.new out.new }
     ensures resume { HostFinds board dma.old result dma.new }
 {
     board_law(&board);

@@ -17,10 +17,6 @@ pub returns-in-Read-clause-done : goal.returns-in-Read-clause-done
 returns-in-Read-clause-done c =
     rw c.in-Read.is (λ untaken disk. c.read.ensures.steps untaken disk c.args.vars.now.table)
 
-pub returns-in-Take-clause-done : goal.returns-in-Take-clause-done
-returns-in-Take-clause-done c =
-    rw c.in-Take.is (λ untaken disk. c.take.ensures.steps untaken disk c.args.vars.now.table)
-
 pub returns-in-Give-clause-done : goal.returns-in-Give-clause-done
 returns-in-Give-clause-done c =
     rw c.in-Give.is (λ untaken disk. c.give.ensures.steps untaken disk c.args.vars.now.table)
@@ -48,9 +44,6 @@ pub returns-in-ShowRegisters-clause-done : goal.returns-in-ShowRegisters-clause-
 returns-in-ShowRegisters-clause-done c =
     rw c.in-ShowRegisters.is
     (λ untaken disk. c.show_registers.ensures.steps untaken disk c.args.vars.now.table)
-
-pub returns-in-RunSession-clause-done : goal.returns-in-RunSession-clause-done
-returns-in-RunSession-clause-done c = rw c.in-RunSession.is c.run_session.ensures.done
 
 pub returns-in-Seed-clause-done : goal.returns-in-Seed-clause-done
 returns-in-Seed-clause-done c =

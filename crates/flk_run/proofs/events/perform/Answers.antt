@@ -12,6 +12,14 @@ returns-in-Arm-clause-done c =
     rw (c.in-Arm.is, ← c.as_slice.ensures)
     (so c.arm.result.1 _ _ (λ answer steps untaken disk. steps disk c.args.vars.now.table) c.arm.ensures.steps)
 
+pub returns-in-Take-clause-done : goal.returns-in-Take-clause-done
+returns-in-Take-clause-done c =
+    rw c.in-Take.is
+    (so c.take.result.1 _ _ (λ answer steps untaken disk. steps untaken disk c.args.vars.now.table) c.take.ensures.steps)
+
+pub returns-in-RunSession-clause-done : goal.returns-in-RunSession-clause-done
+returns-in-RunSession-clause-done c = rw c.in-RunSession.is c.run_session.ensures.done
+
 pub returns-in_default : goal.returns-in_default
 returns-in_default c = record {
   untaken = c.done-host.ensures.untaken;

@@ -19,7 +19,7 @@ use Rattle.slb_core.specs.Pal.{PalEnd}
 use Rattle.session_driver.specs.declared.driver.SessionEnd.{SessionEnd}
 use Rattle.session_driver.specs.Sessions.{area_at}
 use Rattle.session_driver.specs.Filled.{filled, plan_at, answer_at}
-use Rattle.session_driver.specs.Answers.{RunsAt, wants_memory}
+use Rattle.session_driver.specs.Answers.{RunsAt, is_out_of_memory}
 use Rattle.session_driver.specs.Answers.{placed, answer_of, ended_leaves, LeavesBeside, ran_at}
 use Rattle.session_driver.proofs.Filling.{same_area, image_short, filled_board, holds, same_plan, same_answer}
 use Rattle.session_driver.proofs.driver.run.Goals as goal
@@ -53,13 +53,19 @@ returns-in-Err-NoMemory-clause-memory c = λ _.
     })
 
 -- a session that was run has an end
-wants-answer_at : (board : BoardParts) (area : Span) (ran : Fused DigestDevice × Option PalEnd) → wants_memory (answer_at board area ran) ≡ false
-wants-answer_at board area (before, None) = refl
-wants-answer_at board area (after, Some ended) = refl
+ran-answer_at : (board : BoardParts) (area : Span) (ran : Fused DigestDevice × Option PalEnd) → is_out_of_memory (answer_at board area ran) ≡ false
+ran-answer_at board area (before, None) = refl
+ran-answer_at board area (after, Some ended) = refl
 
 pub returns-in-Ok-clause-memory : goal.returns-in-Ok-clause-memory
 returns-in-Ok-clause-memory c = λ wants.
-    absurd (false≢true (sym (ap wants_memory c.run_in.ensures.answer ∙ wants-answer_at _ _ _) ∙ wants))
+    let board : BoardParts = record { device = c.board.inside.device; memory = c.board.inside.memory; registers = c.board.inside.registers; fuse = c.board.inside.fuse.left } in
+    let memory = c.fill.new.memory in
+    let area = c.in-Ok.area in
+    let ran = on_device (plan_at memory area (length c.args.inputs.now) c.args.nonce.now c.args.dma.now) (fused_device board) in
+    let ended : is_out_of_memory c.run_in.result ≡ false =
+    ap is_out_of_memory c.run_in.ensures.answer ∙ ran-answer_at (record board { memory = memory }) area ran in
+    absurd (false≢true (sym ended ∙ wants))
 
 pub fill-requires-clause-image : goal.fill-requires-clause-image
 fill-requires-clause-image c = image_short c.args.image.now c.requires.image

@@ -4,7 +4,7 @@ use Rattle.region_pool.proofs.PlaceLemmas.{place-cases}
 use Rattle.late_launch.specs.Boards.{BoardParts, DarkParts}
 use Rattle.session_driver.specs.declared.driver.SessionEnd.{SessionEnd}
 use Rattle.std.proofs.lemmas.Bool.{cases_Bool}
-use Rattle.session_driver.specs.Answers.{wants_memory}
+use Rattle.session_driver.specs.Answers.{is_out_of_memory}
 use Rattle.session_driver.specs.Resume.{HostFinds}
 use Rattle.session_driver.proofs.Resuming.{finds}
 use Rattle.session_driver.proofs.driver.session.Goals as goal
@@ -14,7 +14,7 @@ returns-clause-resume c =
     let board = c.args.board in
     let marks = board.memory.marks in
     let answered = c.run.ensures in
-    elim (cases_Bool (wants_memory c.run.result)) [
+    elim (cases_Bool (is_out_of_memory c.run.result)) [
       | inl wants ↦
           let w = answered.memory wants in
           subst (λ (r : Result (BoardParts × SessionEnd) DarkParts). HostFinds board c.args.dma.now r c.run.new.dma) (sym w.answer)

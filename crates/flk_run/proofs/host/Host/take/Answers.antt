@@ -1,4 +1,5 @@
-use Rattle.std.proofs.Common.{arith}
+use Rattle.std.proofs.Common.{arith, ap}
+use Rattle.std.specs.Prelude.{Err}
 use Rattle.flk_run.specs.declared.answers.Refusal.TheVariants.{NoRoom}
 use Rattle.flk_run.specs.Answers.{Refused}
 use Rattle.flk_run.specs.Parts.{host_memory}
@@ -20,10 +21,10 @@ returns-in-Ok-clause-steps c = rw (← c.host.view_is) (λ untaken disk variable
     memory_steps _ _ _
     (host_memory c.host.inside.board.memory c.host.inside.tickets.items) _ _ c.host.inside.armed disk variables c.take.ensures.device (rw (c.keep.ensures, c.first.ensures) left.is))
 
-pub returns-in-Err-clause-steps : goal.returns-in-Err-clause-steps
-returns-in-Err-clause-steps c =
-    rw (← c.host.view_is, c.in-Err.ensures.err) (λ untaken disk variables.
+pub returns-in-Err-NoRoom-clause-steps : goal.returns-in-Err-NoRoom-clause-steps
+returns-in-Err-NoRoom-clause-steps c =
+    rw (← c.host.view_is, c.in-Err-NoRoom.ensures.err) (λ untaken disk variables.
     let left = take_missing c.args.frames c.host.inside.board.memory c.host.inside.tickets.items
-    (c.host.invariant.all untaken) (omega arith) c.in-Err.ensures.refused in
+    (c.host.invariant.all untaken) (omega arith) (c.in-Err-NoRoom.ensures.refused (ap Err c.in-Err-NoRoom.field-0-is)) in
     memory_steps _ _ _ (host_memory c.host.inside.board.memory c.host.inside.tickets.items) _
     (Refused NoRoom) c.host.inside.armed disk variables (kept c.host.inside.board) left.is)
