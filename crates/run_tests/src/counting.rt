@@ -46,7 +46,7 @@ const BORNE: &[Row] = &[
     ),
     (
         "session tally x:030000000061 n",
-        "ok done turns 17 dma 0 0 0 x:06000000",
+        "ok done turns 16 dma 0 0 0 x:06000000",
     ),
     ("seed rep:5a*20", "ok"),
     (
