@@ -25,41 +25,43 @@ fn is_misspelled(alloc: Global, word: &str) -> bool {
     matches!(expression_in(alloc, word.as_bytes()), Err(Unread::Spelling))
 }
 
+// Words that spell no expression.
+const MISSPELLED: &[&str] = &[
+    "x:0",
+    "x:0g",
+    "X:00",
+    "rep:f*3",
+    "rep:fff*3",
+    "rep:fg*3",
+    "rep:ff*",
+    "rep:ff3",
+    "rep:",
+    "rep:ff*4294967296",
+    "seventeen_letters",
+    "_a",
+    "0a",
+    "A",
+    "",
+    "x:00+",
+    "+x:00",
+    "x:00++x:01",
+    "[0..0]",
+    "x:00[0..1",
+    "x:00[0.1]",
+    "x:00[0...1]",
+    "x:00[0..1..1]",
+    "x:00[..1]",
+    "x:00[0..]",
+    "x:00[0..1]]",
+    "x:00]",
+    "x:00~",
+    "x:00~0.",
+    "x:00~4294967296",
+];
+
 #[test]
 fn misspelled(rt: HostRuntime) {
-    let rows = [
-        "x:0",
-        "x:0g",
-        "X:00",
-        "rep:f*3",
-        "rep:fff*3",
-        "rep:fg*3",
-        "rep:ff*",
-        "rep:ff3",
-        "rep:",
-        "rep:ff*4294967296",
-        "seventeen_letters",
-        "_a",
-        "0a",
-        "A",
-        "",
-        "x:00+",
-        "+x:00",
-        "x:00++x:01",
-        "[0..0]",
-        "x:00[0..1",
-        "x:00[0.1]",
-        "x:00[0...1]",
-        "x:00[0..1..1]",
-        "x:00[..1]",
-        "x:00[0..]",
-        "x:00[0..1]]",
-        "x:00]",
-        "x:00~",
-        "x:00~0.",
-        "x:00~4294967296",
-    ];
-    for (i, word) in rows.iter().enumerate() {
+    for (i, word) in MISSPELLED.iter().enumerate() {
         assert!(rt; is_misspelled(rt.alloc(), word), "row {i}");
     }
 }
@@ -74,41 +76,43 @@ fn is_worth(alloc: Global, vars: &Vars, word: &str, wanted: &[u8]) -> bool {
     }
 }
 
+// Expressions, and what they are worth.
+const VALUES: &[(&str, &[u8])] = &[
+    ("x:", &[]),
+    ("x:0aFf", &[0x0a, 0xff]),
+    ("rep:fA*3", &[0xfa, 0xfa, 0xfa]),
+    ("rep:00*0x2", &[0x00, 0x00]),
+    ("rep:ff*0", &[]),
+    ("x", &[0x00, 0xff]),
+    ("rep", &[0x01]),
+    ("a0", &[]),
+    ("sixteen_letters_", &[0x02, 0x03]),
+    ("x:00+x+x:", &[0x00, 0x00, 0xff]),
+    ("x:00010203[1..3]", &[0x01, 0x02]),
+    ("x:0001[0..2]", &[0x00, 0x01]),
+    ("x:0001[2..2]", &[]),
+    ("x:00ff[0x1..0x2]", &[0xff]),
+    ("x:80ff~0", &[0x81, 0xff]),
+    ("x:80ff~1", &[0x80, 0xfe]),
+    ("x:00~0~0", &[0x00]),
+    ("x~1+x", &[0x00, 0xfe, 0x00, 0xff]),
+    ("x:000102[1..3]~0", &[0x00, 0x02]),
+    ("x:000102~0[1..3]", &[0x01, 0x02]),
+    ("x:00010203[1..4][1..2]", &[0x02]),
+    ("rep:00*65537[0..2]", &[0x00, 0x00]),
+    ("rep:00*70000~3[0..5]", &[0, 0, 0, 1, 0]),
+    ("rep:00*4294967295[7..9]", &[0x00, 0x00]),
+    (
+        "rep:ab*4294967295~4294967294[4294967293..4294967295]",
+        &[0xab, 0xaa],
+    ),
+    ("rep:00*600~255~256~511~512[1..600][509..512]", &[0, 1, 1]),
+];
+
 #[test]
 fn values(rt: HostRuntime) -> Result<(), Fail> {
-    let rows: [(&str, &[u8]); 26] = [
-        ("x:", &[]),
-        ("x:0aFf", &[0x0a, 0xff]),
-        ("rep:fA*3", &[0xfa, 0xfa, 0xfa]),
-        ("rep:00*0x2", &[0x00, 0x00]),
-        ("rep:ff*0", &[]),
-        ("x", &[0x00, 0xff]),
-        ("rep", &[0x01]),
-        ("a0", &[]),
-        ("sixteen_letters_", &[0x02, 0x03]),
-        ("x:00+x+x:", &[0x00, 0x00, 0xff]),
-        ("x:00010203[1..3]", &[0x01, 0x02]),
-        ("x:0001[0..2]", &[0x00, 0x01]),
-        ("x:0001[2..2]", &[]),
-        ("x:00ff[0x1..0x2]", &[0xff]),
-        ("x:80ff~0", &[0x81, 0xff]),
-        ("x:80ff~1", &[0x80, 0xfe]),
-        ("x:00~0~0", &[0x00]),
-        ("x~1+x", &[0x00, 0xfe, 0x00, 0xff]),
-        ("x:000102[1..3]~0", &[0x00, 0x02]),
-        ("x:000102~0[1..3]", &[0x01, 0x02]),
-        ("x:00010203[1..4][1..2]", &[0x02]),
-        ("rep:00*65537[0..2]", &[0x00, 0x00]),
-        ("rep:00*70000~3[0..5]", &[0, 0, 0, 1, 0]),
-        ("rep:00*4294967295[7..9]", &[0x00, 0x00]),
-        (
-            "rep:ab*4294967295~4294967294[4294967293..4294967295]",
-            &[0xab, 0xaa],
-        ),
-        ("rep:00*600~255~256~511~512[1..600][509..512]", &[0, 1, 1]),
-    ];
     let vars = variables(rt.alloc())?;
-    for (i, (word, wanted)) in rows.iter().enumerate() {
+    for (i, (word, wanted)) in VALUES.iter().enumerate() {
         assert!(rt; is_worth(rt.alloc(), &vars, word, wanted), "row {i}");
     }
     Ok(())
@@ -124,32 +128,34 @@ fn has_fault(alloc: Global, vars: &Vars, word: &str, fault: ExprFault) -> bool {
     }
 }
 
+// Expressions, and the first fault of each.
+const FAULTS: &[(&str, ExprFault)] = &[
+    ("x:0001[2..1]", ExprFault::Range),
+    ("x:0001[1..3]", ExprFault::Range),
+    ("x:0001[3..3]", ExprFault::Range),
+    ("x:80ff~2", ExprFault::Range),
+    ("x:~0", ExprFault::Range),
+    ("x:000102[1..2]~1", ExprFault::Range),
+    ("y", ExprFault::Name),
+    ("rep+y", ExprFault::Name),
+    ("y+x:00~1", ExprFault::Name),
+    ("x:00~1+y", ExprFault::Range),
+    ("y[1..0]", ExprFault::Name),
+    ("rep:00*65537", ExprFault::Long),
+    ("rep:00*65537+y", ExprFault::Long),
+    ("rep:00*65537[0..65538]", ExprFault::Range),
+    ("rep:00*70000~3", ExprFault::Long),
+    ("rep:00*5~9", ExprFault::Range),
+    ("rep:00*70000[3..2]", ExprFault::Range),
+    ("rep:ab*4294967295~4294967295", ExprFault::Range),
+    ("rep:00*65536+rep", ExprFault::Long),
+    ("rep+rep:00*65536[0..65536]", ExprFault::Long),
+];
+
 #[test]
 fn faults(rt: HostRuntime) -> Result<(), Fail> {
-    let rows: [(&str, ExprFault); 20] = [
-        ("x:0001[2..1]", ExprFault::Range),
-        ("x:0001[1..3]", ExprFault::Range),
-        ("x:0001[3..3]", ExprFault::Range),
-        ("x:80ff~2", ExprFault::Range),
-        ("x:~0", ExprFault::Range),
-        ("x:000102[1..2]~1", ExprFault::Range),
-        ("y", ExprFault::Name),
-        ("rep+y", ExprFault::Name),
-        ("y+x:00~1", ExprFault::Name),
-        ("x:00~1+y", ExprFault::Range),
-        ("y[1..0]", ExprFault::Name),
-        ("rep:00*65537", ExprFault::Long),
-        ("rep:00*65537+y", ExprFault::Long),
-        ("rep:00*65537[0..65538]", ExprFault::Range),
-        ("rep:00*70000~3", ExprFault::Long),
-        ("rep:00*5~9", ExprFault::Range),
-        ("rep:00*70000[3..2]", ExprFault::Range),
-        ("rep:ab*4294967295~4294967295", ExprFault::Range),
-        ("rep:00*65536+rep", ExprFault::Long),
-        ("rep+rep:00*65536[0..65536]", ExprFault::Long),
-    ];
     let vars = variables(rt.alloc())?;
-    for (i, (word, fault)) in rows.iter().enumerate() {
+    for (i, (word, fault)) in FAULTS.iter().enumerate() {
         assert!(rt; has_fault(rt.alloc(), &vars, word, *fault), "row {i}");
     }
     Ok(())
@@ -165,16 +171,18 @@ fn has_65_536_bytes(alloc: Global, vars: &Vars, word: &str) -> bool {
     }
 }
 
+// Expressions of the longest value.
+const LONGEST: &[&str] = &[
+    "rep:00*65536",
+    "rep:00*65537[1..65537]",
+    "rep:00*65535+rep",
+    "rep:00*65536+a0",
+];
+
 #[test]
 fn longest_values(rt: HostRuntime) -> Result<(), Fail> {
-    let rows = [
-        "rep:00*65536",
-        "rep:00*65537[1..65537]",
-        "rep:00*65535+rep",
-        "rep:00*65536+a0",
-    ];
     let vars = variables(rt.alloc())?;
-    for (i, word) in rows.iter().enumerate() {
+    for (i, word) in LONGEST.iter().enumerate() {
         assert!(rt; has_65_536_bytes(rt.alloc(), &vars, word), "row {i}");
     }
     Ok(())
@@ -195,6 +203,18 @@ fn flips_at_the_edge_of_a_piece(rt: HostRuntime) {
     }
 }
 
+// Names, and what they are bound to once a hundred more are.
+const BOUND: &[(&[u8], Option<&[u8]>)] = &[
+    (b"x", Some(&[0x00, 0xff])),
+    (b"x\0", None),
+    (b"", None),
+    (b"rep", Some(&[0xab])),
+    (b"sixteen_letters_", Some(&[0x02, 0x03])),
+    (b"sixteen_letters__", None),
+    (b"n\0", Some(&[0x00])),
+    (b"nc", Some(&[0x63])),
+];
+
 #[test]
 fn bound_names(rt: HostRuntime) -> Result<(), Fail> {
     let mut vars = variables(rt.alloc())?;
@@ -204,17 +224,7 @@ fn bound_names(rt: HostRuntime) -> Result<(), Fail> {
         vars.put(&[b'n', i], value);
     }
     vars.set(b"rep", bytes(rt.alloc(), &[0xab])?)?;
-    let rows: [(&[u8], Option<&[u8]>); 8] = [
-        (b"x", Some(&[0x00, 0xff])),
-        (b"x\0", None),
-        (b"", None),
-        (b"rep", Some(&[0xab])),
-        (b"sixteen_letters_", Some(&[0x02, 0x03])),
-        (b"sixteen_letters__", None),
-        (b"n\0", Some(&[0x00])),
-        (b"nc", Some(&[0x63])),
-    ];
-    for (i, (name, wanted)) in rows.iter().enumerate() {
+    for (i, (name, wanted)) in BOUND.iter().enumerate() {
         assert!(rt; vars.get(name) == *wanted, "row {i}");
     }
     Ok(())

@@ -124,86 +124,90 @@ fn is_row(alloc: Global, row: &Row) -> bool {
         && is_worth(alloc, asked.value, row.4)
 }
 
+// Lines, and what they ask for.
+const GOOD: &[Row] = &[
+    ("", "", [0, 0, 0], "", &[]),
+    (" \t ", "", [0, 0, 0], "", &[]),
+    ("\r", "", [0, 0, 0], "", &[]),
+    ("# read 1 2 3", "", [0, 0, 0], "", &[]),
+    ("  #", "", [0, 0, 0], "", &[]),
+    ("read 17", "read", [17, 0, 0], "", &[]),
+    ("read 17\r", "read", [17, 0, 0], "", &[]),
+    ("\tread\t 0x11 ", "read", [17, 0, 0], "", &[]),
+    ("read 0017", "read", [17, 0, 0], "", &[]),
+    ("read 4294967295", "read", [4_294_967_295, 0, 0], "", &[]),
+    ("read 0xFFffFFff", "read", [4_294_967_295, 0, 0], "", &[]),
+    ("extend 0 x:", "extend", [0, 0, 0], "", &[]),
+    ("extend 24 x:0aFf", "extend", [24, 0, 0], "", &[10, 255]),
+    ("let rep x:0102", "let", [0, 0, 0], "rep", &[1, 2]),
+    ("show rep:0a*2~1", "show", [0, 0, 0], "", &[10, 11]),
+    ("image m job 0x20 3 x:90", "image", [1, 32, 3], "m", &[144]),
+    ("image m pal 32 3 x:", "image", [0, 32, 3], "m", &[]),
+    ("take 0", "take", [0, 0, 0], "", &[]),
+    ("take 4", "take", [4, 0, 0], "", &[]),
+    ("give 0x1000", "give", [4096, 0, 0], "", &[]),
+    (
+        "poke 4096 x:0a+rep:00*1",
+        "poke",
+        [4096, 0, 0],
+        "",
+        &[10, 0],
+    ),
+    ("poke 0 x:", "poke", [0, 0, 0], "", &[]),
+    ("peek 4096 65537", "peek", [4096, 65_537, 0], "", &[]),
+    ("peek 0 0", "peek", [0, 0, 0], "", &[]),
+    ("dma 1 x:01", "dma", [1, 0, 0], "", &[1]),
+    ("dma 0 rep:ff*3", "dma", [0, 0, 0], "", &[255, 255, 255]),
+    ("reg eax 0", "reg", [0, 0, 0], "", &[]),
+    ("reg ecx 4294967295", "reg", [1, 4_294_967_295, 0], "", &[]),
+    ("reg edx 2", "reg", [2, 2, 0], "", &[]),
+    ("reg ebx 7", "reg", [3, 7, 0], "", &[]),
+    ("reg esp 1", "reg", [4, 1, 0], "", &[]),
+    ("reg ebp 0x10", "reg", [5, 16, 0], "", &[]),
+    ("reg esi 1", "reg", [6, 1, 0], "", &[]),
+    ("\treg  edi 1\r", "reg", [7, 1, 0], "", &[]),
+    ("regs", "regs", [0, 0, 0], "", &[]),
+    ("arm 1 2 x:00", "arm", [1, 2, 0], "", &[0]),
+    ("session x:01 x:02 x:03", "session", [0, 0, 0], "", &[1]),
+    ("session x:01 x: x: out", "session", [0, 0, 0], "out", &[1]),
+];
+
 #[test]
 fn good_lines(rt: HostRuntime) {
-    let rows: [Row; 38] = [
-        ("", "", [0, 0, 0], "", &[]),
-        (" \t ", "", [0, 0, 0], "", &[]),
-        ("\r", "", [0, 0, 0], "", &[]),
-        ("# read 1 2 3", "", [0, 0, 0], "", &[]),
-        ("  #", "", [0, 0, 0], "", &[]),
-        ("read 17", "read", [17, 0, 0], "", &[]),
-        ("read 17\r", "read", [17, 0, 0], "", &[]),
-        ("\tread\t 0x11 ", "read", [17, 0, 0], "", &[]),
-        ("read 0017", "read", [17, 0, 0], "", &[]),
-        ("read 4294967295", "read", [4_294_967_295, 0, 0], "", &[]),
-        ("read 0xFFffFFff", "read", [4_294_967_295, 0, 0], "", &[]),
-        ("extend 0 x:", "extend", [0, 0, 0], "", &[]),
-        ("extend 24 x:0aFf", "extend", [24, 0, 0], "", &[10, 255]),
-        ("let rep x:0102", "let", [0, 0, 0], "rep", &[1, 2]),
-        ("show rep:0a*2~1", "show", [0, 0, 0], "", &[10, 11]),
-        ("image m job 0x20 3 x:90", "image", [1, 32, 3], "m", &[144]),
-        ("image m pal 32 3 x:", "image", [0, 32, 3], "m", &[]),
-        ("take 0", "take", [0, 0, 0], "", &[]),
-        ("take 4", "take", [4, 0, 0], "", &[]),
-        ("give 0x1000", "give", [4096, 0, 0], "", &[]),
-        (
-            "poke 4096 x:0a+rep:00*1",
-            "poke",
-            [4096, 0, 0],
-            "",
-            &[10, 0],
-        ),
-        ("poke 0 x:", "poke", [0, 0, 0], "", &[]),
-        ("peek 4096 65537", "peek", [4096, 65_537, 0], "", &[]),
-        ("peek 0 0", "peek", [0, 0, 0], "", &[]),
-        ("dma 1 x:01", "dma", [1, 0, 0], "", &[1]),
-        ("dma 0 rep:ff*3", "dma", [0, 0, 0], "", &[255, 255, 255]),
-        ("reg eax 0", "reg", [0, 0, 0], "", &[]),
-        ("reg ecx 4294967295", "reg", [1, 4_294_967_295, 0], "", &[]),
-        ("reg edx 2", "reg", [2, 2, 0], "", &[]),
-        ("reg ebx 7", "reg", [3, 7, 0], "", &[]),
-        ("reg esp 1", "reg", [4, 1, 0], "", &[]),
-        ("reg ebp 0x10", "reg", [5, 16, 0], "", &[]),
-        ("reg esi 1", "reg", [6, 1, 0], "", &[]),
-        ("\treg  edi 1\r", "reg", [7, 1, 0], "", &[]),
-        ("regs", "regs", [0, 0, 0], "", &[]),
-        ("arm 1 2 x:00", "arm", [1, 2, 0], "", &[0]),
-        ("session x:01 x:02 x:03", "session", [0, 0, 0], "", &[1]),
-        ("session x:01 x: x: out", "session", [0, 0, 0], "out", &[1]),
-    ];
-    for (i, row) in rows.iter().enumerate() {
+    for (i, row) in GOOD.iter().enumerate() {
         assert!(rt; is_row(rt.alloc(), row), "row {i}");
     }
 }
 
+// Lines for the device alone, and what they ask for.
+const GOOD_OF_DEVICES: &[Row] = &[
+    ("seed rep:5a*3", "seed", [0, 0, 0], "", &[90, 90, 90]),
+    ("unseal x:0102", "unseal", [0, 0, 0], "", &[1, 2]),
+    ("unseal x: secret\r", "unseal", [0, 0, 0], "secret", &[]),
+    ("counter 0", "counter", [0, 0, 0], "", &[]),
+    ("counter 256", "counter", [256, 0, 0], "", &[]),
+    (
+        "counter 4294967295",
+        "counter",
+        [4_294_967_295, 0, 0],
+        "",
+        &[],
+    ),
+    ("\tcounter  0x10\r", "counter", [16, 0, 0], "", &[]),
+    ("random", "random", [0, 0, 0], "", &[]),
+    (" random\t\r", "random", [0, 0, 0], "", &[]),
+    (
+        "random abcdefghijklmnop",
+        "random",
+        [0, 0, 0],
+        "abcdefghijklmnop",
+        &[],
+    ),
+];
+
 #[test]
 fn good_device_lines(rt: HostRuntime) {
-    let rows: [Row; 10] = [
-        ("seed rep:5a*3", "seed", [0, 0, 0], "", &[90, 90, 90]),
-        ("unseal x:0102", "unseal", [0, 0, 0], "", &[1, 2]),
-        ("unseal x: secret\r", "unseal", [0, 0, 0], "secret", &[]),
-        ("counter 0", "counter", [0, 0, 0], "", &[]),
-        ("counter 256", "counter", [256, 0, 0], "", &[]),
-        (
-            "counter 4294967295",
-            "counter",
-            [4_294_967_295, 0, 0],
-            "",
-            &[],
-        ),
-        ("\tcounter  0x10\r", "counter", [16, 0, 0], "", &[]),
-        ("random", "random", [0, 0, 0], "", &[]),
-        (" random\t\r", "random", [0, 0, 0], "", &[]),
-        (
-            "random abcdefghijklmnop",
-            "random",
-            [0, 0, 0],
-            "abcdefghijklmnop",
-            &[],
-        ),
-    ];
-    for (i, row) in rows.iter().enumerate() {
+    for (i, row) in GOOD_OF_DEVICES.iter().enumerate() {
         assert!(rt; is_row(rt.alloc(), row), "row {i}");
     }
 }
@@ -244,17 +248,19 @@ fn is_worthless(alloc: Global, line: &str, fault: ExprFault) -> bool {
     }
 }
 
+// Lines with an expression that cites a name.
+const UNBOUND: &[&str] = &[
+    "let v v+x:00",
+    "show x",
+    "poke 0 v",
+    "image m pal 32 1 m",
+    "arm 1 2 v",
+    "session m x: x: m",
+];
+
 #[test]
 fn unbound_names(rt: HostRuntime) {
-    let rows = [
-        "let v v+x:00",
-        "show x",
-        "poke 0 v",
-        "image m pal 32 1 m",
-        "arm 1 2 v",
-        "session m x: x: m",
-    ];
-    for (i, line) in rows.iter().enumerate() {
+    for (i, line) in UNBOUND.iter().enumerate() {
         assert!(rt; is_worthless(rt.alloc(), line, ExprFault::Name), "row {i}");
     }
 }
@@ -266,72 +272,74 @@ fn is_bad(alloc: Global, line: &[u8], fault: LineFault) -> bool {
     }
 }
 
+// Lines, and the first fault of each.
+const BAD: &[(&str, LineFault)] = &[
+    ("read 1\x01", LineFault::Byte),
+    ("read 1\r\r", LineFault::Byte),
+    ("# \x7f", LineFault::Byte),
+    ("reed 1\x7f", LineFault::Byte),
+    ("reed", LineFault::Command),
+    ("Read 1", LineFault::Command),
+    ("Let v x:00", LineFault::Command),
+    ("reed 1 2 3", LineFault::Command),
+    ("rea 1", LineFault::Command),
+    ("read", LineFault::Count),
+    ("read 1 2", LineFault::Count),
+    ("read a b", LineFault::Count),
+    ("extend 1", LineFault::Count),
+    ("extend 1 x: x:", LineFault::Count),
+    ("let v", LineFault::Count),
+    ("show", LineFault::Count),
+    ("image m pal 32 3", LineFault::Count),
+    ("give", LineFault::Count),
+    ("peek 4096", LineFault::Count),
+    ("read 4294967296", LineFault::Number),
+    ("read 00000000017", LineFault::Number),
+    ("read 0x", LineFault::Number),
+    ("extend -1 y:", LineFault::Number),
+    ("image m pal a 3 y:", LineFault::Number),
+    ("take x:00", LineFault::Number),
+    ("poke x:00 4096", LineFault::Number),
+    ("peek 4096 x:", LineFault::Number),
+    ("extend 1 x:0", LineFault::Expression),
+    ("dma 1 01", LineFault::Expression),
+    ("let 9 v", LineFault::Name),
+    ("image m pul 32 3 x:90", LineFault::Name),
+    ("image M pul a 3 x:90", LineFault::Name),
+    ("reg eax", LineFault::Count),
+    ("regs 1", LineFault::Count),
+    ("arm 1 2", LineFault::Count),
+    ("session a: b:", LineFault::Count),
+    ("session a: b: c: 9 9", LineFault::Count),
+    ("reg ax 1", LineFault::Name),
+    ("reg EAX 1", LineFault::Name),
+    ("reg eax1 b", LineFault::Name),
+    ("reg esp b", LineFault::Number),
+    ("arm 1 x: y:", LineFault::Number),
+    ("session x: x: 9 9", LineFault::Expression),
+    ("session x: x: x: 9", LineFault::Name),
+    ("seed", LineFault::Count),
+    ("seed x: v", LineFault::Count),
+    ("unseal", LineFault::Count),
+    ("unseal x: v w", LineFault::Count),
+    ("unseal 01 9", LineFault::Expression),
+    ("unseal x: 9", LineFault::Name),
+    ("counters 1", LineFault::Command),
+    ("Random", LineFault::Command),
+    ("counter", LineFault::Count),
+    ("counter 1 2", LineFault::Count),
+    ("counter x x", LineFault::Count),
+    ("random a b", LineFault::Count),
+    ("counter x", LineFault::Number),
+    ("counter 4294967296", LineFault::Number),
+    ("random A", LineFault::Name),
+    ("random x:", LineFault::Name),
+    ("random abcdefghijklmnopq", LineFault::Name),
+];
+
 #[test]
 fn bad_lines(rt: HostRuntime) {
-    let rows: [(&str, LineFault); 61] = [
-        ("read 1\x01", LineFault::Byte),
-        ("read 1\r\r", LineFault::Byte),
-        ("# \x7f", LineFault::Byte),
-        ("reed 1\x7f", LineFault::Byte),
-        ("reed", LineFault::Command),
-        ("Read 1", LineFault::Command),
-        ("Let v x:00", LineFault::Command),
-        ("reed 1 2 3", LineFault::Command),
-        ("rea 1", LineFault::Command),
-        ("read", LineFault::Count),
-        ("read 1 2", LineFault::Count),
-        ("read a b", LineFault::Count),
-        ("extend 1", LineFault::Count),
-        ("extend 1 x: x:", LineFault::Count),
-        ("let v", LineFault::Count),
-        ("show", LineFault::Count),
-        ("image m pal 32 3", LineFault::Count),
-        ("give", LineFault::Count),
-        ("peek 4096", LineFault::Count),
-        ("read 4294967296", LineFault::Number),
-        ("read 00000000017", LineFault::Number),
-        ("read 0x", LineFault::Number),
-        ("extend -1 y:", LineFault::Number),
-        ("image m pal a 3 y:", LineFault::Number),
-        ("take x:00", LineFault::Number),
-        ("poke x:00 4096", LineFault::Number),
-        ("peek 4096 x:", LineFault::Number),
-        ("extend 1 x:0", LineFault::Expression),
-        ("dma 1 01", LineFault::Expression),
-        ("let 9 v", LineFault::Name),
-        ("image m pul 32 3 x:90", LineFault::Name),
-        ("image M pul a 3 x:90", LineFault::Name),
-        ("reg eax", LineFault::Count),
-        ("regs 1", LineFault::Count),
-        ("arm 1 2", LineFault::Count),
-        ("session a: b:", LineFault::Count),
-        ("session a: b: c: 9 9", LineFault::Count),
-        ("reg ax 1", LineFault::Name),
-        ("reg EAX 1", LineFault::Name),
-        ("reg eax1 b", LineFault::Name),
-        ("reg esp b", LineFault::Number),
-        ("arm 1 x: y:", LineFault::Number),
-        ("session x: x: 9 9", LineFault::Expression),
-        ("session x: x: x: 9", LineFault::Name),
-        ("seed", LineFault::Count),
-        ("seed x: v", LineFault::Count),
-        ("unseal", LineFault::Count),
-        ("unseal x: v w", LineFault::Count),
-        ("unseal 01 9", LineFault::Expression),
-        ("unseal x: 9", LineFault::Name),
-        ("counters 1", LineFault::Command),
-        ("Random", LineFault::Command),
-        ("counter", LineFault::Count),
-        ("counter 1 2", LineFault::Count),
-        ("counter x x", LineFault::Count),
-        ("random a b", LineFault::Count),
-        ("counter x", LineFault::Number),
-        ("counter 4294967296", LineFault::Number),
-        ("random A", LineFault::Name),
-        ("random x:", LineFault::Name),
-        ("random abcdefghijklmnopq", LineFault::Name),
-    ];
-    for (i, (line, fault)) in rows.iter().enumerate() {
+    for (i, (line, fault)) in BAD.iter().enumerate() {
         assert!(rt; is_bad(rt.alloc(), line.as_bytes(), *fault), "row {i}");
     }
 }

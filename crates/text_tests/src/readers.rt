@@ -43,48 +43,50 @@ fn gives(alloc: Global, text: &[u8], piece: u32, failing: &[u32], wanted: &[Step
     are_steps(&mut reader, &mut source, wanted)
 }
 
+// Texts, and what the calls of a new reader give.
+const TEXTS: &[(&[u8], &[Step])] = &[
+    (b"", &[Step::End, Step::End]),
+    (
+        b"a\nbb\nccc\n",
+        &[
+            Step::Line("a"),
+            Step::Line("bb"),
+            Step::Line("ccc"),
+            Step::End,
+        ],
+    ),
+    (
+        b"a\nbb\nccc",
+        &[
+            Step::Line("a"),
+            Step::Line("bb"),
+            Step::Line("ccc"),
+            Step::End,
+        ],
+    ),
+    (
+        b"\n\na\n\n",
+        &[
+            Step::Line(""),
+            Step::Line(""),
+            Step::Line("a"),
+            Step::Line(""),
+            Step::End,
+        ],
+    ),
+    (
+        b"a\r\n\rb\r",
+        &[Step::Line("a\r"), Step::Line("\rb\r"), Step::End],
+    ),
+    (
+        b" \tx\0\n\x7f",
+        &[Step::Line(" \tx\0"), Step::Line("\x7f"), Step::End],
+    ),
+];
+
 #[test]
 fn pieces_make_no_difference(rt: HostRuntime) {
-    let rows: [(&[u8], &[Step]); 6] = [
-        (b"", &[Step::End, Step::End]),
-        (
-            b"a\nbb\nccc\n",
-            &[
-                Step::Line("a"),
-                Step::Line("bb"),
-                Step::Line("ccc"),
-                Step::End,
-            ],
-        ),
-        (
-            b"a\nbb\nccc",
-            &[
-                Step::Line("a"),
-                Step::Line("bb"),
-                Step::Line("ccc"),
-                Step::End,
-            ],
-        ),
-        (
-            b"\n\na\n\n",
-            &[
-                Step::Line(""),
-                Step::Line(""),
-                Step::Line("a"),
-                Step::Line(""),
-                Step::End,
-            ],
-        ),
-        (
-            b"a\r\n\rb\r",
-            &[Step::Line("a\r"), Step::Line("\rb\r"), Step::End],
-        ),
-        (
-            b" \tx\0\n\x7f",
-            &[Step::Line(" \tx\0"), Step::Line("\x7f"), Step::End],
-        ),
-    ];
-    for (i, (text, wanted)) in rows.iter().enumerate() {
+    for (i, (text, wanted)) in TEXTS.iter().enumerate() {
         for piece in [1, 7, 65_536] {
             assert!(rt;
                 gives(rt.alloc(), text, piece, &[], wanted),
@@ -94,20 +96,25 @@ fn pieces_make_no_difference(rt: HostRuntime) {
     }
 }
 
+const A: Step = Step::Line("a");
+
+const B: Step = Step::Line("bb");
+
+const C: Step = Step::Line("c");
+
+// How many bytes a read gives at most, which read fails, and what the calls give.
+const FAILING: &[(u32, u32, &[Step])] = &[
+    (1, 0, &[Step::Failed, A, B, C, Step::End]),
+    (1, 2, &[A, Step::Failed, B, C, Step::End]),
+    (1, 5, &[A, B, Step::Failed, C, Step::End]),
+    (1, 7, &[A, B, C, Step::End]),
+    // One read takes the whole source, and a second is made only for the last line.
+    (65_536, 1, &[A, B, Step::Failed, C, Step::End]),
+];
+
 #[test]
 fn goes_on_after_a_fault(rt: HostRuntime) {
-    const A: Step = Step::Line("a");
-    const B: Step = Step::Line("bb");
-    const C: Step = Step::Line("c");
-    let rows: [(u32, u32, &[Step]); 5] = [
-        (1, 0, &[Step::Failed, A, B, C, Step::End]),
-        (1, 2, &[A, Step::Failed, B, C, Step::End]),
-        (1, 5, &[A, B, Step::Failed, C, Step::End]),
-        (1, 7, &[A, B, C, Step::End]),
-        // One read takes the whole source, and a second is made only for the last line.
-        (65_536, 1, &[A, B, Step::Failed, C, Step::End]),
-    ];
-    for (i, (piece, read, wanted)) in rows.iter().enumerate() {
+    for (i, (piece, read, wanted)) in FAILING.iter().enumerate() {
         assert!(rt;
             gives(rt.alloc(), b"a\nbb\nc", *piece, &[*read], wanted),
             "row {i}"
