@@ -1,8 +1,8 @@
 // Laws of sessions and their chains (specs/). Each function does nothing: its clauses are laws,
 // which are proved because they stand here.
 ghost use Rattle.std.specs.Prelude.{◌≡◌, ℕ, List, [], ◌∷◌, ◌++◌, map};
-ghost use Rattle.tpm_state.specs.Chain.{Chain, Zeros, From, ◌▷◌, value, extended_value};
-ghost use Rattle.quote_check.specs.Sessions.{Session, pal_text, closing, with_texts, extended_by};
+ghost use Rattle.tpm_state.specs.Chain.{Zeros, From, ◌▷◌, value, extended_value};
+ghost use Rattle.quote_check.specs.Sessions.{Session, pal_text, closing, extended_by};
 ghost use Rattle.quote_check.specs.Sessions.{running_chain, session_chain};
 
 /// What the calls of a `Check` come to, in their order: `new`, an `extend` for each text of the

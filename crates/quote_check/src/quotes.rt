@@ -1,5 +1,5 @@
 //! Quotes as bytes.
-ghost use Rattle.std.specs.Prelude.{◌≡◌, ◌↔◌, length, bytes_eq, IsTrue};
+ghost use Rattle.std.specs.Prelude.{◌≡◌, ◌↔◌, bytes_eq, IsTrue};
 ghost use Rattle.quote_check.specs.Quotes.{quote_tag, quote_of};
 
 use flk_hmac::Hmac;
