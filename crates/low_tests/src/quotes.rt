@@ -132,23 +132,39 @@ fn wrong_descriptions(rt: HostRuntime) {
     }
 }
 
-// Bytes that are no quote of BASE, by their length or by how they were made.
-#[test]
-fn wrong_quotes(rt: HostRuntime) {
+// Whether the first bytes of the quote of BASE, so many, are none.
+fn is_cut(len: usize) -> bool {
+    len < QUOTE.len()
+        && !is_right(&Row {
+            quote: &QUOTE[..len],
+            ..BASE
+        })
+}
+
+// Whether the quote of BASE with a byte after it is none.
+fn is_longer() -> bool {
     let mut longer = [0; 41];
     longer[..40].copy_from_slice(QUOTE);
-    let rows: [&[u8]; 7] = [
-        &[],
-        &QUOTE[..20],
-        &QUOTE[..39],
-        &longer,
-        NONCE_NOT_IN_TAG,
-        NONCE_NOT_IN_CHAIN,
-        OTHER_ORDER,
-    ];
+    !is_right(&Row {
+        quote: &longer,
+        ..BASE
+    })
+}
+
+#[test]
+fn wrong_lengths(rt: HostRuntime) {
+    for len in 0..40 {
+        assert!(rt; is_cut(len), "{len} bytes");
+    }
+    assert!(rt; is_longer(), "41 bytes");
+}
+
+#[test]
+fn wrong_quotes(rt: HostRuntime) {
+    let rows: [&'static [u8; 40]; 3] = [NONCE_NOT_IN_TAG, NONCE_NOT_IN_CHAIN, OTHER_ORDER];
     for (i, quote) in rows.iter().enumerate() {
         let row = Row {
-            quote: *quote,
+            quote: (*quote).as_slice(),
             ..BASE
         };
         assert!(rt; !is_right(&row), "row {i}");
