@@ -1,5 +1,6 @@
-//! Tests of the crates at the bottom: flk_base, flk_hmac, tpm_state, seal_device and slb_image, by
-//! their public calls alone. Each row is a function to `bool`, and each test a loop over rows.
+//! Tests of the crates at the bottom: flk_base, flk_hmac, tpm_state, quote_check, seal_device and
+//! slb_image, by their public calls alone. Each row is a function to `bool`, and each test a loop
+//! over rows.
 #![tactic(auto)]
 
 #[cfg(test)]
@@ -18,6 +19,8 @@ mod edges;
 mod images;
 #[cfg(test)]
 mod macs;
+#[cfg(test)]
+mod quotes;
 #[cfg(test)]
 mod registers;
 #[cfg(test)]

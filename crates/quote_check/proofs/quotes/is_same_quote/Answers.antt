@@ -1,0 +1,12 @@
+use Rattle.std.proofs.Common.{arith}
+use Rattle.quote_check.proofs.Comparing.{same_none, same_more, same_all}
+use Rattle.quote_check.proofs.quotes.is_same_quote.Goals as goal
+
+pub loop-i-init : goal.loop-i-init
+loop-i-init c = same_none _ _
+
+pub loop-i-preserved : goal.loop-i-preserved
+loop-i-preserved c = same_more _ _ _ _ c.loop-i.invariant
+
+pub returns : goal.returns
+returns c = same_all _ _ _ c.loop-i.i (omega arith) (omega arith) c.loop-i.invariant
