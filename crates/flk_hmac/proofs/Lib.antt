@@ -1,3 +1,5 @@
+pub mod Sameness
 pub mod MacLengths
 pub mod Masks
 pub mod Pads
+pub mod QuoteLengths

@@ -1,8 +1,9 @@
 -- How a session ends, and what register 17 is extended by then.
-use Rattle.std.specs.Prelude.{◌≡◌, ℕ, List, [], ◌∷◌, ◌++◌, length, codes}
+use Rattle.std.specs.Prelude.{◌≡◌, ℕ, List, [], ◌∷◌, length}
 use Rattle.i386_profile.specs.declared.cpu.FaultKind.{FaultKind}
 use Rattle.i386_profile.specs.declared.cpu.FaultKind.TheVariants as faults
 use Rattle.flk_base.specs.Plan.{Plan, Return, Ask}
+use Rattle.tpm_state.specs.Sessions as sessions
 use Rattle.seal_device.specs.Commands.{Command, Extend, Reply, launch_register}
 use Rattle.late_launch.specs.declared.ends.End.{End}
 use Rattle.late_launch.specs.declared.ends.End.TheVariants.{Done, Fault, Budget, Refused}
@@ -38,12 +39,7 @@ IsEndOf other outputs = Unit {0}
 
 -- the texts by which register 17 is extended at the end of a session
 abbrev pub closing : List ℕ → List ℕ → End → List ℕ → List (List ℕ)
-closing inputs outputs end nonce =
-    (codes "in" ++ inputs)
-    ∷ (codes "out" ++ outputs)
-    ∷ (codes "end" ++ end_byte end ∷ nonce)
-    ∷ codes "close"
-    ∷ []
+closing inputs outputs end nonce = sessions.closing inputs outputs (end_byte end) nonce
 
 -- the plan that extends register 17 by each of these texts, in their order
 abbrev pub extend_each : List (List ℕ) → Plan Command Reply (Unit {0})

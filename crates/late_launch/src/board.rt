@@ -1,10 +1,12 @@
 //! The board.
 ghost use Rattle.std.specs.Prelude.{◌≡◌, ◌≤◌, ◌++◌, IfOk};
+ghost use Rattle.std.specs.Option.{option_map};
 ghost use Rattle.flk_base.specs.Plan.{ask};
 ghost use Rattle.flk_base.specs.Stop.{Ends, reported, reported_into};
 ghost use Rattle.seal_device.specs.Commands.{Command, act};
 ghost use Rattle.seal_device.specs.Digests.{digests, on_device};
-ghost use Rattle.seal_device.specs.Faults.{provision_answer, register_fault, unseal_fault, read_fault, random_fault};
+ghost use Rattle.seal_device.specs.Faults.{provision_answer, register_fault, unseal_fault, read_fault};
+ghost use Rattle.seal_device.specs.Faults.{quote_fault, random_fault};
 ghost use Rattle.machine_memory.specs.Areas.{IsArea};
 ghost use Rattle.late_launch.specs.Boards.{blank_board, zero_registers, fused_device, fallen};
 
@@ -15,7 +17,8 @@ use i386_profile::Cpu;
 use machine_memory::Memory;
 use region_pool::Ticket;
 use seal_device::{
-    CounterFault, Device, LONGEST_SEALED, Provisioned, RandomFault, RegisterFault, UnsealFault,
+    CounterFault, Device, LONGEST_SEALED, Provisioned, QuoteFault, RandomFault, RegisterFault,
+    UnsealFault,
 };
 use std::alloc::Global;
 use std::marker::Model;
@@ -169,6 +172,29 @@ impl Board {
         ensures registers { self.new.registers ≡ self.old.registers }
     {
         self.device.read_counter(id, &mut self.fuse)
+    }
+
+    /// The quote of register 17 for a nonce, in one step of the fuse: its value, and the tag.
+    ///
+    /// # Errors
+    ///
+    /// `PowerLost` where the fuse has no step left, and nothing changes; else, with the step taken, `Unprovisioned`
+    /// where the device has no seed.
+    pub fn quote(&mut self, nonce: &[u8; 20]) -> Result<[u8; 40], QuoteFault>
+        ensures ends { Ends (reported quote_fault QuoteFault.PowerLost)
+            (on_device (ask (Command.Quote nonce.now)) (fused_device self.old))
+            (fused_device self.new) result }
+        ensures memory { self.new.memory ≡ self.old.memory }
+        ensures registers { self.new.registers ≡ self.old.registers }
+    {
+        self.device.quote(nonce, &mut self.fuse)
+    }
+
+    /// The key for quotes, where the device has a seed. It takes no step.
+    pub fn quote_key(&self) -> Option<[u8; 20]>
+        ensures { result ≡ option_map (λ keys. keys.quoting) self.now.device.keys }
+    {
+        self.device.quote_key()
     }
 
     /// The next random word, in one step of the fuse.

@@ -4,8 +4,8 @@
 use crate::blobs::{BEFORE, IMAGE, SEED, comes_to, is_as_before, launched};
 use flk_base::Fuse;
 use seal_device::{
-    BLOB_ROOM, CounterFault, Device, RandomFault, SealFault, UnsealFault, blob_counter,
-    commands_by_counters,
+    BLOB_ROOM, CounterFault, Device, QuoteFault, RandomFault, SealFault, UnsealFault, blob_counter,
+    commands_by_counters, quote_law,
 };
 
 // The first blob of "k" once the image was measured, of which counter 0 has to stand at 1; and one
@@ -46,6 +46,25 @@ const WORD_1: [u8; 20] = [
     0xcf, 0xac, 0x80, 0x3a,
 ];
 
+// What register 17 is quoted as for the nonce, at power-on, once the image was measured, and once x
+// came after it: the value, and hmac(hmac(seed, b"flk-quote"), b"FLKQ" + nonce + value).
+const NONCE: [u8; 20] = [0x07; 20];
+
+const QUOTED_AT_POWER_ON: &[u8; 40] =
+    b"\xff\xff\xff\xff\xff\xff\xff\xff\xff\xff\xff\xff\xff\xff\xff\xff\xff\xff\xff\xff\
+      \x39\x9d\xf3\x05\x9d\xd1\x3d\x5d\x10\xc1\xf3\x42\xe8\x3b\xb5\x32\xfd\xd3\x63\x02";
+
+const QUOTED_AT_LAUNCH: &[u8; 40] =
+    b"\xe0\xcc\x23\x3e\xcb\xe4\x70\xac\x07\x25\x25\xc3\x29\xb3\x2f\xe5\xac\x3b\xd6\x4b\
+      \xf9\xbf\xb9\xc8\x5c\x53\xf8\x2e\xe2\x17\x6f\x01\xb5\xe4\x89\x9f\xf1\xe5\x80\xb4";
+
+const QUOTED_AFTER: &[u8; 40] =
+    b"\x74\x07\x18\x7c\x51\x34\xf5\x37\x53\xf4\x6f\xec\x69\x27\x8d\x85\x10\xcc\x22\x58\
+      \x64\x4e\x42\xaf\xa0\xfc\x9d\xfc\xa8\x5c\xfa\x7e\x80\x43\x11\x45\xc1\xb8\xb0\x46";
+
+const QUOTE_KEY: &[u8; 20] =
+    b"\x8c\xcc\x28\x96\x2e\xb6\x11\x10\xd5\x79\xf5\xe6\x58\x6f\x62\xdc\xe3\x68\x41\xef";
+
 // A call to a device, and what it comes to.
 #[derive(Clone, Copy)]
 enum Row {
@@ -61,6 +80,10 @@ enum Row {
     Read(u8, Result<u32, CounterFault>),
     /// A counter is incremented.
     Increment(u8, Result<u32, CounterFault>),
+    /// Register 17 is quoted.
+    Quote(Result<&'static [u8; 40], QuoteFault>),
+    /// The key for quotes.
+    QuoteKey(Option<&'static [u8; 20]>),
     /// A random word is drawn.
     Word(Result<[u8; 20], RandomFault>),
     /// The image is measured.
@@ -88,6 +111,18 @@ fn is_sealed(
     }
 }
 
+// Whether register 17 is quoted so, in one step.
+fn is_quoted(device: &Device, wanted: Result<&'static [u8; 40], QuoteFault>) -> bool {
+    let fuse = &mut Fuse { left: Some(1) };
+    let quoted = device.quote(&NONCE, fuse);
+    let same = match (quoted, wanted) {
+        (Ok(quote), Ok(bytes)) => quote == *bytes,
+        (Err(fault), Err(other)) => fault == other,
+        _ => false,
+    };
+    same && fuse.left == Some(0)
+}
+
 // Whether a row is right, after the rows before it. One step is enough for each call.
 fn is_row(device: &mut Device, row: Row) -> bool {
     let fuse = &mut Fuse { left: Some(1) };
@@ -100,6 +135,8 @@ fn is_row(device: &mut Device, row: Row) -> bool {
         Row::Create(wanted) => device.new_counter(fuse) == wanted,
         Row::Read(id, wanted) => device.read_counter(id, fuse) == wanted,
         Row::Increment(id, wanted) => device.increment(id, fuse) == wanted,
+        Row::Quote(wanted) => is_quoted(device, wanted),
+        Row::QuoteKey(wanted) => device.quote_key() == wanted.copied(),
         Row::Word(wanted) => device.random(fuse) == wanted,
         Row::Measure => device.measure(&IMAGE, fuse) == Ok(()),
         Row::Extend => device.extend(17, b"", b"x", fuse) == Ok(()),
@@ -229,8 +266,10 @@ fn sixteen_counters(rt: HostRuntime) {
 
 #[test]
 fn without_a_seed(rt: HostRuntime) {
-    let rows: [Row; 9] = [
+    let rows: [Row; 11] = [
         Row::Measure,
+        Row::Quote(Err(QuoteFault::Unprovisioned)),
+        Row::QuoteKey(None),
         Row::Seal(TOO_LONG, Some(0), true, Err(SealFault::Unprovisioned)),
         Row::Unseal(AT_ONE, Err(UnsealFault::Unprovisioned)),
         Row::Next(b"", Err(UnsealFault::Unprovisioned)),
@@ -255,6 +294,7 @@ fn is_lost(device: &mut Device) -> bool {
         && device.increment(1, fuse) == Err(CounterFault::PowerLost)
         && device.increment(0, fuse) == Err(CounterFault::PowerLost)
         && device.random(fuse) == Err(RandomFault::PowerLost)
+        && device.quote(&NONCE, fuse) == Err(QuoteFault::PowerLost)
         && device.check_next(AT_TWO, fuse) == Err(UnsealFault::PowerLost)
         && device.seal(TOO_LONG, Some(0), true, &mut out, fuse) == Err(SealFault::PowerLost)
         && device.seal(b"k", Some(0), true, &mut out, fuse) == Err(SealFault::PowerLost)
@@ -281,6 +321,23 @@ fn lost_power(rt: HostRuntime) {
     }
 }
 
+#[test]
+fn quotes_of_a_device(rt: HostRuntime) {
+    let rows: [Row; 7] = [
+        Row::Quote(Ok(QUOTED_AT_LAUNCH)),
+        Row::QuoteKey(Some(QUOTE_KEY)),
+        Row::Quote(Ok(QUOTED_AT_LAUNCH)),
+        Row::Extend,
+        Row::Quote(Ok(QUOTED_AFTER)),
+        Row::PowerOn,
+        Row::Quote(Ok(QUOTED_AT_POWER_ON)),
+    ];
+    let mut device = launched(&SEED);
+    for (i, row) in rows.iter().enumerate() {
+        assert!(rt; is_row(&mut device, *row), "row {i}");
+    }
+}
+
 // Whether each fault has its number.
 fn is_numbered() -> bool {
     CounterFault::Full as u32 == 1
@@ -291,6 +348,8 @@ fn is_numbered() -> bool {
         && RandomFault::RandomEnd as u32 == 4
         && RandomFault::PowerLost as u32 == 5
         && RandomFault::Unprovisioned as u32 == 6
+        && QuoteFault::PowerLost as u32 == 5
+        && QuoteFault::Unprovisioned as u32 == 6
         && SealFault::CounterEnd as u32 == 3
 }
 
@@ -302,4 +361,5 @@ fn numbers_of_faults(rt: HostRuntime) {
 #[test]
 fn laws_at_types() {
     commands_by_counters::<[u8; 20], (), u32>();
+    quote_law::<u32>();
 }

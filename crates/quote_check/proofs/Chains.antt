@@ -1,8 +1,8 @@
 -- Chains with texts after them.
 use Rattle.std.proofs.Common.{◌≡◌, ℕ, List, [], ◌∷◌, ◌++◌, map, refl, sym, ap}
 use Rattle.tpm_state.specs.Chain.{Chain, Zeros, From, ◌▷◌, value, extended_value}
-use Rattle.quote_check.specs.Sessions.{Session, pal_text, closing, with_texts, extended_by}
-use Rattle.quote_check.specs.Sessions.{running_chain, session_chain}
+use Rattle.tpm_state.specs.Sessions.{Session, pal_text, closing, with_texts, extended_by}
+use Rattle.tpm_state.specs.Sessions.{running_chain, session_chain}
 
 -- the value of a chain with texts after it
 pub value-with_texts : (chain : Chain) (texts : List (List ℕ)) →

@@ -4,8 +4,8 @@ use Rattle.std.proofs.Common.{◌≡◌, ℕ, List, [], ◌∷◌, ◌++◌, map
 use Rattle.std.proofs.Common.{append_assoc, append-nil, arith}
 use Rattle.std.specs.Prelude.{codes}
 use Rattle.tpm_state.specs.Chain.{Chain, Zeros, From, ◌▷◌}
-use Rattle.quote_check.specs.Sessions.{Session, pal_text, closing, with_texts}
-use Rattle.quote_check.specs.Sessions.{running_chain, session_chain}
+use Rattle.tpm_state.specs.Sessions.{Session, pal_text, closing, with_texts}
+use Rattle.tpm_state.specs.Sessions.{running_chain, session_chain}
 
 -- the texts of a chain, in their order
 abbrev texts_of : Chain → List (List ℕ)

@@ -1,12 +1,12 @@
 //! The description of a session, as the value of register 17 so far.
 ghost use Rattle.std.specs.Prelude.{◌≡◌, ◌↔◌, ◌∷◌, ◌++◌, IsTrue};
 ghost use Rattle.tpm_state.specs.Chain.{Zeros, From, ◌▷◌, value, extended_value};
-ghost use Rattle.quote_check.specs.Sessions.{pal_text, closing, extended_by};
-ghost use Rattle.quote_check.specs.Quotes.{quote_of};
+ghost use Rattle.tpm_state.specs.Sessions.{pal_text, closing, extended_by};
+ghost use Rattle.flk_hmac.specs.Quotes.{quote_of};
 
-use crate::quotes::is_quote;
-use sha1::Sha1;
+use flk_hmac::{is_same, quote_of};
 use std::marker::Model;
+use tpm_state::extended_value;
 
 /// A session that is described: `new` by its image, an `extend` for each text by which its code
 /// extended register 17, in their order, and `verdict` with the rest. Contracts see the 20 bytes
@@ -57,22 +57,8 @@ impl Check {
             (extended_by self (closing inputs.now outputs.now end nonce.now))) }
     {
         let closed = closed_value(&self.value, inputs, outputs, end, nonce);
-        is_quote(quote, key, nonce, &closed)
+        is_same(quote, &quote_of(key, nonce, &closed))
     }
-}
-
-// The value that a text, in two parts, makes of a value.
-fn extended_value(value: &[u8; 20], prefix: &[u8], text: &[u8]) -> [u8; 20]
-    ensures { result ≡ extended_value value.now (prefix.now ++ text.now) }
-{
-    let mut inner = Sha1::new();
-    inner.update(prefix);
-    inner.update(text);
-    let digest = inner.finalize();
-    let mut outer = Sha1::new();
-    outer.update(value);
-    outer.update(&digest);
-    outer.finalize()
 }
 
 // The byte for an end, and the nonce.

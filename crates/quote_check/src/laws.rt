@@ -2,8 +2,8 @@
 // which are proved because they stand here.
 ghost use Rattle.std.specs.Prelude.{◌≡◌, ℕ, List, [], ◌∷◌, ◌++◌, map};
 ghost use Rattle.tpm_state.specs.Chain.{Zeros, From, ◌▷◌, value, extended_value};
-ghost use Rattle.quote_check.specs.Sessions.{Session, pal_text, closing, extended_by};
-ghost use Rattle.quote_check.specs.Sessions.{running_chain, session_chain};
+ghost use Rattle.tpm_state.specs.Sessions.{Session, pal_text, closing, extended_by};
+ghost use Rattle.tpm_state.specs.Sessions.{running_chain, session_chain};
 
 /// What the calls of a `Check` come to, in their order: `new`, an `extend` for each text of the
 /// session's code, and the closing texts of `verdict`, give the value of the session's chain.

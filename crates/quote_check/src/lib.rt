@@ -5,7 +5,6 @@
 
 mod check;
 mod laws;
-mod quotes;
 
 pub use check::Check;
 pub use laws::{chain_law, value_law};

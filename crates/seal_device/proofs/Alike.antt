@@ -18,7 +18,8 @@ use Rattle.seal_device.specs.Drawing.{last_word, random_word}
 use Rattle.seal_device.specs.Sealing.{provision, with_keys, present_chain, seal_with, seal_bearing}
 use Rattle.seal_device.specs.Sealing.{unless_last}
 use Rattle.seal_device.specs.Commands.{Command, Provision, Measure, Extend, ReadRegister, Seal, Unseal}
-use Rattle.seal_device.specs.Commands.{CheckNext, NewCounter, ReadCounter, Increment, Random, PowerOn}
+use Rattle.seal_device.specs.Commands.{CheckNext, Quote, Check, NewCounter, ReadCounter, Increment}
+use Rattle.seal_device.specs.Commands.{Random, PowerOn}
 use Rattle.seal_device.specs.Commands.{act, compares, extend, with_counters, or_refused}
 use Rattle.seal_device.specs.Digests.{DigestDevice, digests}
 use Rattle.seal_device.specs.Ledger.{hashed_by, strings_at}
@@ -26,6 +27,7 @@ use Rattle.seal_device.specs.Lists.{ListDevice, lists}
 use Rattle.seal_device.specs.Agreement.{digested, reply_digested}
 use Rattle.seal_device.specs.Refusals.Register as registers
 use Rattle.seal_device.specs.Refusals.Seal as seals
+use Rattle.seal_device.specs.Refusals.Quote as quotes
 use Rattle.seal_device.specs.Refusals.Random as randoms
 
 -- the command does the same on both
@@ -123,6 +125,12 @@ seal_alike bytes counter ahead d =
       by_borne keys (Ok borne) = rw (present_alike d) refl
       by_borne keys (Err refusal) = refl
 
+-- ---- quoting
+
+quote_alike : (nonce : List ℕ) (d : ListDevice) → Alike (Quote nonce) d
+quote_alike nonce d =
+    with_keys_alike quotes.Unprovisioned d _ _ d.keys (λ keys is. rw (present_alike d) refl)
+
 -- ---- counters and random words
 
 new_counter_alike : (d : ListDevice) → Alike NewCounter d
@@ -159,12 +167,14 @@ alike (Measure image) d nothing = measure_alike image d
 alike (Extend r text) d nothing = extend_alike r text d
 alike (ReadRegister r) d nothing = read_alike r d
 alike (Seal bytes counter ahead) d nothing = seal_alike bytes counter ahead d
+alike (Quote nonce) d nothing = quote_alike nonce d
 alike NewCounter d nothing = new_counter_alike d
 alike (ReadCounter id) d nothing = read_counter_alike id d
 alike Random d nothing = random_alike d
 alike PowerOn d nothing = refl
 alike (Unseal bytes) d nothing = absurd (cc)
 alike (CheckNext bytes) d nothing = absurd (cc)
+alike (Check claim bytes) d nothing = absurd (cc)
 alike (Increment id) d nothing = absurd (cc)
 
 -- on both a command hashes the same strings

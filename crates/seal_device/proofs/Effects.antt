@@ -10,11 +10,14 @@ use Rattle.seal_device.specs.Rules.{Device, Rules}
 use Rattle.seal_device.specs.Drawing.{draw, last_word, random_word}
 use Rattle.seal_device.specs.Sealing.{provision, with_keys, present_chain, seal_bearing, seal_with}
 use Rattle.seal_device.specs.Sealing.{new_record, with_record, seal, unseal, check_next}
+use Rattle.seal_device.specs.Quoting.{new_quote, with_quote, quote, check}
 use Rattle.seal_device.specs.Commands.{Command, Provision, Measure, Extend, ReadRegister, Seal, Unseal}
-use Rattle.seal_device.specs.Commands.{CheckNext, NewCounter, ReadCounter, Increment, Random, PowerOn}
+use Rattle.seal_device.specs.Commands.{CheckNext, Quote, Check, NewCounter, ReadCounter, Increment}
+use Rattle.seal_device.specs.Commands.{Random, PowerOn}
 use Rattle.seal_device.specs.Commands.{act, extend, with_chain, with_image, first_chains}
 use Rattle.seal_device.specs.Refusals.Seal as seals
 use Rattle.seal_device.specs.Refusals.Unseal as unseals
+use Rattle.seal_device.specs.Refusals.Quote as quotes
 use Rattle.seal_device.specs.Refusals.Random as randoms
 
 -- the device after a command has this, whatever the command changes of it
@@ -29,6 +32,7 @@ pub record AfterEach {H M : Type 0} (R : Rules H M) (c : Command) (d : Device H 
     pub sealed : (bytes : List ℕ) (counter : Option ℕ) (ahead : Bool) (borne : Option Bearing) →
         c ≡ Seal bytes counter ahead → seal_bearing d.serial d.counters bytes counter ahead ≡ Ok borne →
         P (with_record R (new_record R bytes borne d) d)
+    pub quoted : (nonce : List ℕ) → c ≡ Quote nonce → P (with_quote R (new_quote R nonce d) d)
     pub created : c ≡ NewCounter →
         P (record d { counters = (create (present_chain R d) d.counters).0 })
     pub incremented : (id : ℕ) → c ≡ Increment id →
@@ -70,6 +74,12 @@ after_each R (Unseal bytes) d P each =
 after_each R (CheckNext bytes) d P each =
     with_keys_ends P unseals.Unprovisioned d (check_next R bytes d) d.keys each.nothing
     (λ keys. each.nothing)
+after_each R (Quote nonce) d P each =
+    with_keys_ends P quotes.Unprovisioned d (quote R nonce d) d.keys each.nothing
+    (λ keys. each.quoted nonce refl)
+after_each R (Check claim bytes) d P each =
+    with_keys_ends P quotes.Unprovisioned d (check R claim bytes d) d.keys each.nothing
+    (λ keys. each.nothing)
 after_each R NewCounter d P each = each.created refl
 after_each R (ReadCounter id) d P each = each.nothing
 after_each R (Increment id) d P each = each.incremented id refl
@@ -97,6 +107,7 @@ counters_after {H} {M} R c d P nothing created incremented =
       measured = λ image. nothing;
       extended = λ r text chain there. nothing;
       sealed = λ bytes counter ahead borne one ok. nothing;
+      quoted = λ nonce one. nothing;
       created = created;
       incremented = incremented;
       drawn = λ one less. nothing;

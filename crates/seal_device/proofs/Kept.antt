@@ -33,16 +33,17 @@ use Rattle.seal_device.proofs.Sealable.{sealable}
 use Rattle.seal_device.proofs.Serials.{keys_stay}
 
 -- a record stays where it is kept
-record_stays : (c : Command) (d : ListDevice) (r : Sealed Chain) → Contains d.made r →
-    Contains (act lists c d).0.made r
+record_stays : (c : Command) (d : ListDevice) (r : Sealed Chain) → Contains d.made.records r →
+    Contains (act lists c d).0.made.records r
 record_stays c d r there =
-    after_each lists c d (λ (e : ListDevice). Contains e.made r) (record {
+    after_each lists c d (λ (e : ListDevice). Contains e.made.records r) (record {
       nothing = there;
       seeded = λ keys none. there;
       measured = λ image. there;
       extended = λ n text chain at. there;
       sealed = λ bytes counter ahead borne one ok.
-          Contains-append_left d.made (new_record lists bytes borne d ∷ []) r there;
+          Contains-append_left d.made.records (new_record lists bytes borne d ∷ []) r there;
+      quoted = λ nonce one. there;
       created = λ one. there;
       incremented = λ id one. there;
       drawn = λ one less. there;
@@ -53,7 +54,7 @@ record_stays c d r there =
 pub record Keeps (keys : Keys) (r : Sealed Chain) (w : ListDevice × Ledger) : Type 0 where
   pub known : Noted w.0 w.1
   pub provisioned : w.0.keys ≡ Some keys
-  pub kept : Contains w.0.made r
+  pub kept : Contains w.0.made.records r
 
 -- each command keeps that
 keeps_stays : (keys : Keys) (r : Sealed Chain) (c : Command) (w : ListDevice × Ledger) →
@@ -90,12 +91,12 @@ same_serial made one other rise (k, l, is) (k', l', is') same =
 
 -- the record that is found for the blob of one that is kept is that one
 found_again : (d : ListDevice) (ledger : Ledger) (keys : Keys) (r : Sealed Chain) →
-    Noted d ledger → Contains d.made r → record_of keys d.made (blob_of keys r) ≡ Some r
+    Noted d ledger → Contains d.made.records r → record_of keys d.made.records (blob_of keys r) ≡ Some r
 found_again d ledger keys r noted there =
-    let one = found keys d.made (blob_of keys r) (image_in (blob_of keys) d.made r there) in
+    let one = found keys d.made.records (blob_of keys r) (image_in (blob_of keys) d.made.records r there) in
     let s = one.0 in
-    let fits = All-contains InRange d.made r noted.in_range there in
-    let fits' = All-contains InRange d.made s noted.in_range one.1 in
+    let fits = All-contains InRange d.made.records r noted.in_range there in
+    let fits' = All-contains InRange d.made.records s noted.in_range one.1 in
     let both : ◌≡◌ {A = Option (Sealed (List ℕ))} (Some (with_chain_by value s))
     (Some (with_chain_by value r)) =
     sym (parsed-blob_of keys s fits')
@@ -103,18 +104,18 @@ found_again d ledger keys r noted there =
     ∙ parsed-blob_of keys r fits in
     let shown : with_chain_by value s ≡ with_chain_by value r = cc in
     let serials = ap (λ (x : Sealed (List ℕ)). x.serial) shown in
-    one.3 ∙ ap (λ (x : Sealed Chain). Some x) (same_serial d.made s r noted.rise one.1 there serials)
+    one.3 ∙ ap (λ (x : Sealed Chain). Some x) (same_serial d.made.records s r noted.rise one.1 there serials)
 
 -- what opening comes to with these keys
 pub unseal_with : (d : ListDevice) (keys : Keys) (bytes : List ℕ) → d.keys ≡ Some keys →
     act lists (Unseal bytes) d
-    ≡ (d, open_blob lists d (content d.counters) (record_of keys d.made bytes))
+    ≡ (d, open_blob lists d (content d.counters) (record_of keys d.made.records bytes))
 unseal_with d keys bytes is =
     ap (λ (k : Option Keys). with_keys unseals.Unprovisioned d (unseal lists bytes d) k) is
 
 pub check_with : (d : ListDevice) (keys : Keys) (bytes : List ℕ) → d.keys ≡ Some keys →
     act lists (CheckNext bytes) d
-    ≡ (d, open_blob lists d (λ r. awaited d.counters r.counter) (record_of keys d.made bytes))
+    ≡ (d, open_blob lists d (λ r. awaited d.counters r.counter) (record_of keys d.made.records bytes))
 check_with d keys bytes is =
     ap (λ (k : Option Keys). with_keys unseals.Unprovisioned d (check_next lists bytes d) k) is
 
@@ -139,7 +140,7 @@ kept_later keys r plan before kept =
 -- what the blob of a record that is kept comes to, whatever is looked for in it
 kept_opens : {X : Type 0} (d : ListDevice) (keys : Keys) (r : Sealed Chain)
     (find : Sealed Chain → Option X) → KeptBy keys r d →
-    open_blob lists d find (record_of keys d.made (blob_of keys r)) ≡ open_record lists d find r
+    open_blob lists d find (record_of keys d.made.records (blob_of keys r)) ≡ open_record lists d find r
 kept_opens d keys r find kept =
     let keeps = kept.1 in
     ap (open_blob lists d find) (found_again d kept.0 keys r keeps.known keeps.kept)
@@ -213,8 +214,8 @@ given_now d ledger bytes counter ahead blob known ok =
         record {
           known = stays_noted (Seal bytes counter ahead) d ledger known;
           provisioned = keys_stay lists (Seal bytes counter ahead) d now.keys now.provisioned;
-          kept = subst (λ (e : ListDevice). Contains e.made r) (sym now.after)
-              (Contains-push d.made r);
+          kept = subst (λ (e : ListDevice). Contains e.made.records r) (sym now.after)
+              (Contains-push d.made.records r);
         },
       );
       is = sym now.is;
@@ -366,11 +367,11 @@ given_elsewhere d bytes counter ahead blob later given other =
 
 -- bytes that are the blob of no record are no blob
 pub no_blob : (d : ListDevice) (keys : Keys) (bytes : List ℕ) → d.keys ≡ Some keys →
-    ((r : Sealed Chain) → Contains d.made r → blob_of keys r ≢ bytes) →
+    ((r : Sealed Chain) → Contains d.made.records r → blob_of keys r ≢ bytes) →
     (act lists (Unseal bytes) d ≡ (d, Err unseals.NotBlob))
     × (act lists (CheckNext bytes) d ≡ (d, Err unseals.NotBlob))
 no_blob d keys bytes is other =
-    let none = not_found keys d.made bytes other in (
+    let none = not_found keys d.made.records bytes other in (
       unseal_with d keys bytes is
           ∙ ap (λ (o : Option (Sealed Chain)).
           let end : ListDevice × Result (List ℕ) unseals.Refusal =
@@ -418,7 +419,7 @@ pub what_opened : (d : ListDevice) (bytes content : List ℕ) →
     (act lists (Unseal bytes) d).1 ≡ Ok content → OpensTo d bytes content
 what_opened d bytes given ok = by_keys d.keys refl ok where
   by_found : (keys : Keys) → d.keys ≡ Some keys → (o : Option (Sealed Chain)) →
-      IfSome o (λ r. Contains d.made r × (blob_of keys r ≡ bytes)) →
+      IfSome o (λ r. Contains d.made.records r × (blob_of keys r ≡ bytes)) →
       open_blob lists d (content d.counters) o ≡ Ok given → OpensTo d bytes given
   by_found keys is None one ok = absurd (cc)
   by_found keys is (Some r) one ok =
@@ -439,4 +440,4 @@ what_opened d bytes given ok = by_keys d.keys refl ok where
       OpensTo d bytes given
   by_keys None is ok = absurd (cc)
   by_keys (Some keys) is ok =
-      by_found keys is (record_of keys d.made bytes) (found_in keys d.made bytes) ok
+      by_found keys is (record_of keys d.made.records bytes) (found_in keys d.made.records bytes) ok

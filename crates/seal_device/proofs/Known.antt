@@ -1,5 +1,5 @@
 -- The ledger has what a device of lists knows, after each command.
-use Rattle.std.proofs.Common.{◌≡◌, ◌-◌, ℕ, zero, suc, ◌+◌, ◌<◌, ◌≤◌, List, [], ◌∷◌, ◌++◌, Bool}
+use Rattle.std.proofs.Common.{◌≡◌, ◌≢◌, ◌-◌, ℕ, zero, suc, ◌+◌, ◌<◌, ◌≤◌, List, [], ◌∷◌, ◌++◌, Bool}
 use Rattle.std.proofs.Common.{true, false, eqb, Option, Some, None, refl, sym, ap, ◌∙◌, subst}
 use Rattle.std.proofs.Common.{inl, inr, length, map, get_or, All, Contains, Result, Ok, Err, arith}
 use Rattle.std.specs.Prelude.{slice_get, IfSome, if◌then◌else◌}
@@ -18,20 +18,24 @@ use Rattle.tpm_state.specs.Counters as counting
 use Rattle.tpm_state.specs.CounterLaws.{create_in_range, increment_in_range}
 use Rattle.seal_device.specs.Keys.{Keys, keys_of}
 use Rattle.seal_device.specs.Sealed.{Bearing, BearingInRange, Sealed, InRange}
+use Rattle.seal_device.specs.Quoted.{Quoted, quote_bytes}
 use Rattle.seal_device.specs.Rules.{launch_start, launch_register}
 use Rattle.seal_device.specs.Drawing.{draw, last_word, random_word}
 use Rattle.seal_device.specs.Sealing.{provision, with_keys, present_chain, new_record, with_record}
 use Rattle.seal_device.specs.Sealing.{seal, seal_with, seal_bearing, last_serial, unseal, check_next}
+use Rattle.seal_device.specs.Quoting.{new_quote, with_quote, quote, check}
 use Rattle.seal_device.specs.Commands.{Command, Provision, Measure, Extend, ReadRegister, Seal, Unseal}
-use Rattle.seal_device.specs.Commands.{CheckNext, NewCounter, ReadCounter, Increment, Random, PowerOn}
+use Rattle.seal_device.specs.Commands.{CheckNext, Quote, Check, NewCounter, ReadCounter, Increment}
+use Rattle.seal_device.specs.Commands.{Random, PowerOn}
 use Rattle.seal_device.specs.Commands.{act, extend, with_chain, first_chains, blank}
 use Rattle.seal_device.specs.Ledger.{Ledger, ledger_after, hashed_by, strings_to_extend, strings_at}
-use Rattle.seal_device.specs.Ledger.{if_given, no_ledger}
-use Rattle.seal_device.specs.Lists.{ListDevice, lists, blob_of}
-use Rattle.seal_device.specs.Agreement.{Knows, Noted, InLedger, OwnersInLedger, strings, blobs}
+use Rattle.seal_device.specs.Ledger.{strings, strings_to_check, if_given, no_ledger}
+use Rattle.seal_device.specs.Lists.{ListDevice, Made, lists, blob_of}
+use Rattle.seal_device.specs.Agreement.{Knows, Noted, InLedger, OwnersInLedger, blobs, given_quotes}
 use Rattle.seal_device.specs.Agreement.{SerialsRise}
 use Rattle.seal_device.specs.Refusals.Seal as seals
 use Rattle.seal_device.specs.Refusals.Unseal as unseals
+use Rattle.seal_device.specs.Refusals.Quote as quotes
 use Rattle.seal_device.specs.Refusals.Random as randoms
 use Rattle.seal_device.proofs.Sealable.{sealable, borne_by, borne_in_range}
 use Rattle.seal_device.proofs.Owners.{none_in_use, create_owners, increment_owners}
@@ -44,18 +48,22 @@ Hashed hashed chain = All (Contains hashed) (strings chain)
 abbrev pub StaysNoted : Command → ListDevice → Ledger → Type 0
 StaysNoted c d ledger = Noted (act lists c d).0 (ledger_after lists c d ledger)
 
--- the ledger with more strings, and with more blobs
-abbrev pub with_more : Ledger → List (List ℕ) → List (List ℕ) → Ledger
-with_more ledger more blobs =
-    record { hashed = ledger.hashed ++ more; made = ledger.made ++ blobs }
+-- the ledger with more strings, with more blobs, and with more quotes
+abbrev pub with_more : Ledger → List (List ℕ) → List (List ℕ) → List (List ℕ × List ℕ) → Ledger
+with_more ledger more blobs quotes =
+    record {
+      hashed = ledger.hashed ++ more;
+      made = ledger.made ++ blobs;
+      quoted = ledger.quoted ++ quotes;
+    }
 
 -- what was hashed stays hashed
-still_hashed : (h more : List (List ℕ)) (chain : Chain) → Hashed h chain → Hashed (h ++ more) chain
+pub still_hashed : (h more : List (List ℕ)) (chain : Chain) → Hashed h chain → Hashed (h ++ more) chain
 still_hashed h more chain known = λ k d l. Contains-append_left h more _ (known k d l)
 
 -- more strings were hashed, and nothing else happened
 still_noted : (d : ListDevice) (ledger : Ledger) (more : List (List ℕ)) → Noted d ledger →
-    Noted d (with_more ledger more [])
+    Noted d (with_more ledger more [] [])
 still_noted d ledger more noted =
     record {
       chains = λ k e l. still_hashed ledger.hashed more (get_or d.chains k e) (noted.chains k e l);
@@ -63,8 +71,11 @@ still_noted d ledger more noted =
           still_hashed ledger.hashed more counter.owner (noted.owners id counter at);
       counters = noted.counters;
       records = λ k e l.
-          still_hashed ledger.hashed more (get_or d.made k e).chain (noted.records k e l);
+          still_hashed ledger.hashed more (get_or d.made.records k e).chain (noted.records k e l);
+      quotes = λ k e l.
+          still_hashed ledger.hashed more (get_or d.made.quotes k e).chain (noted.quotes k e l);
       made = noted.made ∙ sym (append-nil ledger.made);
+      quoted = noted.quoted ∙ sym (append-nil ledger.quoted);
       no_keys = noted.no_keys;
       in_range = noted.in_range;
       serials = noted.serials;
@@ -83,7 +94,9 @@ parts_noted d ledger chains counters drawn noted known owners range =
       owners = owners;
       counters = range;
       records = noted.records;
+      quotes = noted.quotes;
       made = noted.made;
+      quoted = noted.quoted;
       no_keys = noted.no_keys;
       in_range = noted.in_range;
       serials = noted.serials;
@@ -143,7 +156,7 @@ measure_noted : (image : List ℕ) (d : ListDevice) (ledger : Ledger) → Noted 
     StaysNoted (Measure image) d ledger
 measure_noted image d ledger noted =
     let more = strings_to_extend (start_value launch_start) image in
-    chain_noted d (with_more ledger more []) launch_register (From launch_start ▷ image)
+    chain_noted d (with_more ledger more [] []) launch_register (From launch_start ▷ image)
     (still_noted d ledger more noted)
     (one_more ledger.hashed (From launch_start) image (none_hashed ledger.hashed launch_start))
 
@@ -151,7 +164,7 @@ extend_noted : (r : ℕ) (text : List ℕ) (d : ListDevice) (ledger : Ledger) �
     StaysNoted (Extend r text) d ledger
 extend_noted r text d ledger noted = by_chain (slice_get d.chains r) refl where
   by_chain : (o : Option Chain) → slice_get d.chains r ≡ o →
-      Noted (extend lists r text d o).0 (with_more ledger (strings_at lists text o) [])
+      Noted (extend lists r text d o).0 (with_more ledger (strings_at lists text o) [] [])
   by_chain None is = still_noted d ledger [] noted
   by_chain (Some chain) is =
       let more = strings_to_extend (value chain) text in
@@ -159,7 +172,7 @@ extend_noted r text d ledger noted = by_chain (slice_get d.chains r) refl where
       let known : Hashed ledger.hashed chain =
       subst (Hashed ledger.hashed) at
       (noted.chains r chain (slice_get_within d.chains r chain is)) in
-      chain_noted d (with_more ledger more []) r (chain ▷ text) (still_noted d ledger more noted)
+      chain_noted d (with_more ledger more [] []) r (chain ▷ text) (still_noted d ledger more noted)
       (one_more ledger.hashed chain text known)
 
 -- at power-on each chain is a start
@@ -180,7 +193,9 @@ blank_noted =
         largest = omega arith;
       };
       records = λ k e l. absurd (omega arith);
+      quotes = λ k e l. absurd (omega arith);
       made = refl;
+      quoted = refl;
       no_keys = λ none. refl;
       in_range = λ k e l. absurd (omega arith);
       serials = λ k e l. absurd (omega arith);
@@ -194,7 +209,7 @@ provision_noted : (seed : List ℕ) (d : ListDevice) (ledger : Ledger) → Noted
     StaysNoted (Provision seed) d ledger
 provision_noted seed d ledger noted = by_keys d.keys refl where
   by_keys : (k : Option Keys) → d.keys ≡ k →
-      Noted (provision (keys_of seed) d k).0 (with_more ledger [] [])
+      Noted (provision (keys_of seed) d k).0 (with_more ledger [] [] [])
   by_keys (Some keys) is = still_noted d ledger [] noted
   by_keys None is =
       let none = noted.no_keys is in
@@ -203,9 +218,13 @@ provision_noted seed d ledger noted = by_keys d.keys refl where
         owners = noted.owners;
         counters = noted.counters;
         records = noted.records;
-        made = ap (map (blob_of (keys_of seed))) none
-            ∙ sym (ap (λ (k : Option Keys). blobs k d.made) is)
+        quotes = noted.quotes;
+        made = ap (λ (made : Made). map (blob_of (keys_of seed)) made.records) none
+            ∙ sym (ap (λ (k : Option Keys). blobs k d.made.records) is)
             ∙ noted.made;
+        quoted = ap (λ (made : Made). given_quotes (Some (keys_of seed)) made.quotes) none
+            ∙ sym (ap (λ (k : Option Keys). given_quotes k d.made.quotes) is)
+            ∙ noted.quoted;
         no_keys = λ never. none;
         in_range = noted.in_range;
         serials = noted.serials;
@@ -239,7 +258,7 @@ record_noted : (bytes : List ℕ) (borne : Option Bearing) (d : ListDevice) (led
     (keys : Keys) → d.keys ≡ Some keys → Noted d ledger → length bytes ≤ 2048 →
     IfSome borne BearingInRange → d.serial < last_serial →
     Noted (with_record lists (new_record lists bytes borne d) d)
-    (with_more ledger [] (blob_of keys (new_record lists bytes borne d) ∷ []))
+    (with_more ledger [] (blob_of keys (new_record lists bytes borne d) ∷ []) [])
 record_noted bytes borne d ledger keys is noted short fits below =
     let r = new_record lists bytes borne d in
     let next = noted.next in
@@ -249,24 +268,27 @@ record_noted bytes borne d ledger keys is noted short fits below =
           still_hashed ledger.hashed [] counter.owner (noted.owners id counter at);
       counters = noted.counters;
       records =
-          All-push (λ s. Hashed (ledger.hashed ++ []) s.chain) d.made r
-          (λ k e l. still_hashed ledger.hashed [] (get_or d.made k e).chain (noted.records k e l))
+          All-push (λ s. Hashed (ledger.hashed ++ []) s.chain) d.made.records r
+          (λ k e l. still_hashed ledger.hashed [] (get_or d.made.records k e).chain (noted.records k e l))
           (still_hashed ledger.hashed [] r.chain (present_hashed d ledger noted));
+      quotes = λ k e l.
+          still_hashed ledger.hashed [] (get_or d.made.quotes k e).chain (noted.quotes k e l);
       made =
-          ap (λ (k : Option Keys). blobs k (d.made ++ r ∷ [])) is
-          ∙ map-append (blob_of keys) d.made (r ∷ [])
+          ap (λ (k : Option Keys). blobs k (d.made.records ++ r ∷ [])) is
+          ∙ map-append (blob_of keys) d.made.records (r ∷ [])
           ∙ ap (λ (all : List (List ℕ)). all ++ blob_of keys r ∷ [])
-          (sym (ap (λ (k : Option Keys). blobs k d.made) is) ∙ noted.made);
+          (sym (ap (λ (k : Option Keys). blobs k d.made.records) is) ∙ noted.made);
+      quoted = noted.quoted ∙ sym (append-nil ledger.quoted);
       no_keys = λ none. absurd (let clash : None ≡ Some keys = sym none ∙ is in cc);
       in_range =
-          All-push InRange d.made r noted.in_range
+          All-push InRange d.made.records r noted.in_range
           (record { serial = next; counter = fits; bytes = short });
       serials =
-          All-push (λ s. s.serial < d.serial + 1) d.made r
+          All-push (λ s. s.serial < d.serial + 1) d.made.records r
           (All-weaker (λ s. s.serial < d.serial) (λ s. s.serial < d.serial + 1)
-          (λ s low. omega arith) d.made noted.serials)
+          (λ s low. omega arith) d.made.records noted.serials)
           (omega arith);
-      rise = rise_more d.made r noted.rise noted.serials;
+      rise = rise_more d.made.records r noted.rise noted.serials;
       next = omega arith;
     }
 
@@ -276,7 +298,7 @@ seal_noted bytes counter ahead d ledger noted = by_keys d.keys refl where
   by_borne : (keys : Keys) → d.keys ≡ Some keys → (o : Result (Option Bearing) seals.Refusal) →
       seal_bearing d.serial d.counters bytes counter ahead ≡ o →
       Noted (seal_with lists bytes d keys o).0
-      (with_more ledger [] (if_given (seal_with lists bytes d keys o).1))
+      (with_more ledger [] (if_given (seal_with lists bytes d keys o).1) [])
   by_borne keys is (Err refusal) why = still_noted d ledger [] noted
   by_borne keys is (Ok borne) why =
       let told = sealable d.serial d.counters bytes counter ahead borne why in
@@ -289,7 +311,7 @@ seal_noted bytes counter ahead d ledger noted = by_keys d.keys refl where
   by_keys : (k : Option Keys) → d.keys ≡ k →
       Noted (with_keys seals.Unprovisioned d (seal lists bytes counter ahead d) k).0
       (with_more ledger []
-      (if_given (with_keys seals.Unprovisioned d (seal lists bytes counter ahead d) k).1))
+      (if_given (with_keys seals.Unprovisioned d (seal lists bytes counter ahead d) k).1) [])
   by_keys None is = still_noted d ledger [] noted
   by_keys (Some keys) is =
       by_borne keys is (seal_bearing d.serial d.counters bytes counter ahead) refl
@@ -300,6 +322,50 @@ with_keys_noted : {X E : Type 0} (refusal : E) (d : ListDevice) (ledger : Ledger
     ((keys : Keys) → Noted (f keys).0 ledger) → Noted (with_keys refusal d f k).0 ledger
 with_keys_noted refusal d ledger f None noted done = noted
 with_keys_noted refusal d ledger f (Some keys) noted done = done keys
+
+-- ---- quoting
+
+-- a quote more, of register 17's chain
+made_noted : (nonce : List ℕ) (d : ListDevice) (ledger : Ledger) (keys : Keys) →
+    d.keys ≡ Some keys → Noted d ledger →
+    Noted (with_quote lists (new_quote lists nonce d) d)
+    (with_more ledger [] [] ((nonce, quote_bytes keys (new_quote lists nonce d)) ∷ []))
+made_noted nonce d ledger keys is noted =
+    let q = new_quote lists nonce d in
+    record {
+      chains = λ k e l. still_hashed ledger.hashed [] (get_or d.chains k e) (noted.chains k e l);
+      owners = λ id counter at.
+          still_hashed ledger.hashed [] counter.owner (noted.owners id counter at);
+      counters = noted.counters;
+      records = λ k e l.
+          still_hashed ledger.hashed [] (get_or d.made.records k e).chain (noted.records k e l);
+      quotes =
+          All-push (λ (s : Quoted Chain). Hashed (ledger.hashed ++ []) s.chain) d.made.quotes q
+          (λ k e l. still_hashed ledger.hashed [] (get_or d.made.quotes k e).chain (noted.quotes k e l))
+          (still_hashed ledger.hashed [] q.chain (present_hashed d ledger noted));
+      made = noted.made ∙ sym (append-nil ledger.made);
+      quoted =
+          ap (λ (k : Option Keys). given_quotes k (d.made.quotes ++ q ∷ [])) is
+          ∙ map-append (λ (s : Quoted Chain). (s.nonce, quote_bytes keys s)) d.made.quotes (q ∷ [])
+          ∙ ap (λ (all : List (List ℕ × List ℕ)). all ++ (nonce, quote_bytes keys q) ∷ [])
+          (sym (ap (λ (k : Option Keys). given_quotes k d.made.quotes) is) ∙ noted.quoted);
+      no_keys = λ none. absurd (let clash : None ≡ Some keys = sym none ∙ is in cc);
+      in_range = noted.in_range;
+      serials = noted.serials;
+      rise = noted.rise;
+      next = noted.next;
+    }
+
+quote_noted : (nonce : List ℕ) (d : ListDevice) (ledger : Ledger) → Noted d ledger →
+    StaysNoted (Quote nonce) d ledger
+quote_noted nonce d ledger noted = by_keys d.keys refl where
+  by_keys : (k : Option Keys) → d.keys ≡ k →
+      Noted (with_keys quotes.Unprovisioned d (quote lists nonce d) k).0
+      (with_more ledger [] []
+      (map (λ bytes. (nonce, bytes))
+      (if_given (with_keys quotes.Unprovisioned d (quote lists nonce d) k).1)))
+  by_keys None is = still_noted d ledger [] noted
+  by_keys (Some keys) is = made_noted nonce d ledger keys is noted
 
 -- ---- counters and random words
 
@@ -343,21 +409,27 @@ stays_noted (Seal bytes counter ahead) d ledger noted =
     seal_noted bytes counter ahead d ledger noted
 stays_noted (Unseal bytes) d ledger noted =
     let same = still_noted d ledger [] noted in
-    with_keys_noted unseals.Unprovisioned d (with_more ledger [] []) (unseal lists bytes d) d.keys
+    with_keys_noted unseals.Unprovisioned d (with_more ledger [] [] []) (unseal lists bytes d) d.keys
     same (λ keys. same)
 stays_noted (CheckNext bytes) d ledger noted =
     let same = still_noted d ledger [] noted in
-    with_keys_noted unseals.Unprovisioned d (with_more ledger [] []) (check_next lists bytes d)
+    with_keys_noted unseals.Unprovisioned d (with_more ledger [] [] []) (check_next lists bytes d)
+    d.keys same (λ keys. same)
+stays_noted (Quote nonce) d ledger noted = quote_noted nonce d ledger noted
+stays_noted (Check claim bytes) d ledger noted =
+    let more = strings_to_check claim.chain d.keys in
+    let same = still_noted d ledger more noted in
+    with_keys_noted quotes.Unprovisioned d (with_more ledger more [] []) (check lists claim bytes d)
     d.keys same (λ keys. same)
 stays_noted NewCounter d ledger noted =
-    new_counter_noted d (with_more ledger [] []) (still_noted d ledger [] noted)
+    new_counter_noted d (with_more ledger [] [] []) (still_noted d ledger [] noted)
 stays_noted (ReadCounter id) d ledger noted = still_noted d ledger [] noted
 stays_noted (Increment id) d ledger noted =
-    increment_noted id d (with_more ledger [] []) (still_noted d ledger [] noted)
+    increment_noted id d (with_more ledger [] [] []) (still_noted d ledger [] noted)
 stays_noted Random d ledger noted =
-    random_noted d (with_more ledger [] []) (still_noted d ledger [] noted)
+    random_noted d (with_more ledger [] [] []) (still_noted d ledger [] noted)
 stays_noted PowerOn d ledger noted =
-    chains_noted d (with_more ledger [] []) (first_chains lists) (still_noted d ledger [] noted)
+    chains_noted d (with_more ledger [] [] []) (first_chains lists) (still_noted d ledger [] noted)
     (blank_chains (ledger.hashed ++ []))
 
 -- ---- the ledger gains no more
@@ -373,14 +445,16 @@ last_known d r chain text there = λ k e l.
       Contains-append_right (strings chain) more (get_or more k e) (All-contains_itself more k e l),
     )
 
--- what a command hashes the device knows after it
+-- what a command hashes the device knows after it, but for a check
 pub known_after : (c : Command) (d : ListDevice) → length d.chains ≡ register_count →
+    ((claim : Quoted Chain) (bytes : List ℕ) → c ≢ Check claim bytes) →
     All (Knows (act lists c d).0) (hashed_by lists c d)
-known_after (Measure image) d count =
+known_after (Check claim bytes) d count other = absurd (other claim bytes refl)
+known_after (Measure image) d count other =
     last_known d launch_register (From launch_start) image (omega arith)
-known_after (Extend r text) d count = by_chain (slice_get d.chains r) refl where
+known_after (Extend r text) d count other = by_chain (slice_get d.chains r) refl where
   by_chain : (o : Option Chain) → slice_get d.chains r ≡ o →
       All (Knows (extend lists r text d o).0) (strings_at lists text o)
   by_chain None is = λ k e l. absurd (omega arith)
   by_chain (Some chain) is = last_known d r chain text (slice_get_within d.chains r chain is)
-known_after c d count = λ k e l. absurd (omega arith)
+known_after c d count other = λ k e l. absurd (omega arith)

@@ -7,7 +7,6 @@ pub mod Effects
 pub mod Growth
 pub mod Plans
 pub mod Values
-pub mod Tags
 pub mod Writes
 pub mod Reading
 pub mod Making
@@ -15,6 +14,7 @@ pub mod Counting
 pub mod BlobFields
 pub mod BlobLaws
 pub mod Openings
+pub mod Quotes
 pub mod Serials
 pub mod Kept
 pub mod Passing

@@ -221,22 +221,22 @@ opened_found : {X : Type 0} (d : ListDevice) (ledger : Ledger) (found : Sealed C
     FoundAlike found shown → (p : List ℕ) → WasMade d.keys p ledger →
     (keys : Keys) → d.keys ≡ Some keys →
     open_blob digests (digested d) shown (parsed keys p)
-    ≡ open_blob lists d found (record_of keys d.made p)
+    ≡ open_blob lists d found (record_of keys d.made.records p)
 opened_found d ledger found shown noted clean alike p was keys is =
-    let made : map (blob_of keys) d.made ≡ ledger.made =
-    sym (ap (λ (k : Option Keys). blobs k d.made) is) ∙ noted.made in
+    let made : map (blob_of keys) d.made.records ≡ ledger.made =
+    sym (ap (λ (k : Option Keys). blobs k d.made.records) is) ∙ noted.made in
     let here : IsTrue (tag_ok keys p) → Contains ledger.made p =
     subst (λ (k : Option Keys). WasMade k p ledger) is was in
-    ap (open_blob digests (digested d) shown) (read_alike keys d.made p noted.in_range
+    ap (open_blob digests (digested d) shown) (read_alike keys d.made.records p noted.in_range
     (λ ok. subst (λ (all : List (List ℕ)). Contains all p) (sym made) (here ok)))
-    ∙ opened_alike d ledger found shown noted clean alike (record_of keys d.made p)
-    (known (record_of keys d.made p) (found_in keys d.made p)) where
+    ∙ opened_alike d ledger found shown noted clean alike (record_of keys d.made.records p)
+    (known (record_of keys d.made.records p) (found_in keys d.made.records p)) where
       known : (o : Option (Sealed Chain)) →
-          IfSome o (λ r. Contains d.made r × (blob_of keys r ≡ p)) →
+          IfSome o (λ r. Contains d.made.records r × (blob_of keys r ≡ p)) →
           IfSome o (λ r. Hashed ledger.hashed r.chain)
       known None one = tt
       known (Some r) one =
-          All-contains (λ s. Hashed ledger.hashed s.chain) d.made r noted.records one.0
+          All-contains (λ s. Hashed ledger.hashed s.chain) d.made.records r noted.records one.0
 
 -- a command that opens a blob, and changes nothing, does so alike
 opening_alike : {X : Type 0} (d : ListDevice) (ledger : Ledger) (found : Sealed Chain → Option X)
@@ -245,7 +245,7 @@ opening_alike : {X : Type 0} (d : ListDevice) (ledger : Ledger) (found : Sealed 
     with_keys unseals.Unprovisioned (digested d)
     (λ keys. (digested d, open_blob digests (digested d) shown (parsed keys p))) d.keys
     ≡ reply_digested (with_keys unseals.Unprovisioned d
-    (λ keys. (d, open_blob lists d found (record_of keys d.made p))) d.keys)
+    (λ keys. (d, open_blob lists d found (record_of keys d.made.records p))) d.keys)
 opening_alike {X} d ledger found shown noted clean alike p was =
     with_keys_alike unseals.Unprovisioned d _ _ d.keys (λ keys is.
     ap (λ (reply : Result X unseals.Refusal).

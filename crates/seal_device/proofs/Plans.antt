@@ -9,17 +9,19 @@ use Rattle.flk_base.specs.Stop.{Limit, limited, Fused, with_fuse, end_of, fused}
 use Rattle.flk_base.specs.StopLaws.{only-limited}
 use Rattle.std.proofs.lemmas.List.Elements.{Contains-append_left}
 use Rattle.seal_device.specs.Rules.{Device, Rules}
-use Rattle.seal_device.specs.Commands.{Command, Unseal, CheckNext, Increment, Reply, act, blank}
+use Rattle.seal_device.specs.Commands.{Command, Unseal, CheckNext, Check, Increment, Reply, act}
+use Rattle.seal_device.specs.Commands.{blank}
 use Rattle.seal_device.specs.Commands.{compares, costs}
 use Rattle.seal_device.specs.Digests.{DigestDevice, digests, on_device}
 use Rattle.seal_device.specs.Ledger.{Ledger, no_ledger, Clean, Unforged, Fair, noted, hashed_by}
-use Rattle.seal_device.specs.Ledger.{made_by, ledger_after}
+use Rattle.seal_device.specs.Ledger.{made_by, quoted_by, ledger_after}
 use Rattle.seal_device.specs.Lists.{ListDevice, lists}
 use Rattle.seal_device.specs.Agreement.{digested, fused_digested, end_digested, Noted, Agrees}
 use Rattle.seal_device.specs.Agreement.{FusedAgree, FairPlan, UnforgedPlan, ComparesNothing}
 use Rattle.seal_device.proofs.Alike.{Alike, alike, hashed_alike}
 use Rattle.seal_device.proofs.Known.{with_more, stays_noted, blank_noted}
 use Rattle.seal_device.proofs.Openings.{unseal_alike, check_next_alike, increment_alike}
+use Rattle.seal_device.proofs.Quotes.{check_alike}
 
 -- ---- plans that compare nothing
 
@@ -81,6 +83,8 @@ fair_alike (Unseal bytes) d ledger fair noted =
 fair_alike (CheckNext bytes) d ledger fair noted =
     let here = fair refl in
     check_next_alike bytes d ledger noted (clean_before ledger.hashed [] here.0) here.1
+fair_alike (Check claim bytes) d ledger fair noted =
+    let here = fair refl in check_alike claim bytes d ledger noted here.0 here.1
 fair_alike (Increment id) d ledger fair noted =
     let here = fair refl in
     increment_alike id d ledger noted (clean_before ledger.hashed [] here.0)
@@ -102,9 +106,11 @@ fair_law c w v fair agree =
               device = ap (λ (end : DigestDevice × Reply c). end.0) (sym one);
               ledger =
                   ap (λ (more : List (List ℕ)).
-                  with_more w.1 more (made_by c (act lists c w.0).1)) (sym (hashed_alike c w.0))
+                  with_more w.1 more (made_by c (act lists c w.0).1) (quoted_by c (act lists c w.0).1))
+                  (sym (hashed_alike c w.0))
                   ∙ ap (λ (end : DigestDevice × Reply c).
-                  with_more w.1 (hashed_by digests c (digested w.0)) (made_by c end.1)) (sym one);
+                  with_more w.1 (hashed_by digests c (digested w.0)) (made_by c end.1)
+                  (quoted_by c end.1)) (sym one);
               known = stays_noted c w.0 w.1 agree.known;
             },
             ap (λ (end : DigestDevice × Reply c). end.1) (sym one),

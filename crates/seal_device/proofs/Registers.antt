@@ -29,6 +29,7 @@ count_kept {H} {M} R c d count =
       extended = λ r text chain there.
           length-set d.chains r (R.extended chain text) ∙ count;
       sealed = λ bytes counter ahead borne one ok. count;
+      quoted = λ nonce one. count;
       created = λ one. count;
       incremented = λ id one. count;
       drawn = λ one less. count;

@@ -7,7 +7,7 @@ use Rattle.sha1.specs.Sha1.{sha1}
 use Rattle.flk_hmac.proofs.MacLengths.{length-sha1}
 use Rattle.tpm_state.specs.Chain.{Start, Zeros, Ones, Chain, From, ◌▷◌, value, start_value}
 use Rattle.seal_device.specs.Ledger.{Clean, strings_to_extend}
-use Rattle.seal_device.specs.Agreement.{strings}
+use Rattle.seal_device.specs.Ledger.{strings}
 use Rattle.seal_device.proofs.Known.{Hashed}
 
 -- a value has 20 bytes

@@ -1,25 +1,29 @@
 -- The commands of a device and what each does, by the rules of any platform.
 use Rattle.std.specs.Prelude.{ℕ, List, map, Bool, true, false, Option, Some, None, Result, Ok, Err}
 use Rattle.std.specs.Prelude.{slice_get, slice_set}
-use Rattle.tpm_state.specs.Chain.{power_start, register_numbers}
+use Rattle.tpm_state.specs.Chain.{Chain, power_start, register_numbers}
 use Rattle.tpm_state.specs.Counters.{Counters, no_counters, create, read, increment}
 use Rattle.tpm_state.specs.Refusals.Create as creates
 use Rattle.tpm_state.specs.Refusals.ReadCounter as reads
 use Rattle.tpm_state.specs.Refusals.Increment as increments
 use Rattle.seal_device.specs.Keys.{keys_of}
+use Rattle.seal_device.specs.Quoted.{Quoted}
 use Rattle.seal_device.specs.Rules.{Device, Rules}
 pub use Rattle.seal_device.specs.Rules.{launch_register, launch_start}
 use Rattle.seal_device.specs.Sealing.{provision, with_keys, present_chain, seal, unseal, check_next}
+use Rattle.seal_device.specs.Quoting.{quote, check}
 use Rattle.seal_device.specs.Drawing.{draw}
 use Rattle.seal_device.specs.Refusals.Register as registers
 use Rattle.seal_device.specs.Refusals.Seed as seeds
 use Rattle.seal_device.specs.Refusals.Seal as seals
 use Rattle.seal_device.specs.Refusals.Unseal as unseals
+use Rattle.seal_device.specs.Refusals.Quote as quotes
 use Rattle.seal_device.specs.Refusals.Random as randoms
 
 -- a command to a device: take a seed, measure an image, extend a register by a text, read a
 -- register; seal bytes (by a counter, and for its next value, where that is asked), unseal a blob,
--- try it for the next value of its counter; create a counter, read it, increment it; draw a random
+-- try it for the next value of its counter; quote register 17 for a nonce, and check whether bytes
+-- are the quote that they are claimed to be; create a counter, read it, increment it; draw a random
 -- word; and power-on
 pub data Command : Type 0 where
   Provision : (seed : List ℕ) → Command
@@ -29,22 +33,27 @@ pub data Command : Type 0 where
   Seal : (bytes : List ℕ) (counter : Option ℕ) (ahead : Bool) → Command
   Unseal : (bytes : List ℕ) → Command
   CheckNext : (bytes : List ℕ) → Command
+  Quote : (nonce : List ℕ) → Command
+  Check : (claim : Quoted Chain) (bytes : List ℕ) → Command
   NewCounter : Command
   ReadCounter : (id : ℕ) → Command
   Increment : (id : ℕ) → Command
   Random : Command
   PowerOn : Command
 
--- the commands that take a step of the fuse: all but power-on and the taking of a seed
+-- the commands that take a step of the fuse: all but power-on, the taking of a seed, and the check of
+-- a quote
 abbrev pub costs : Command → Bool
 costs PowerOn = false
 costs (Provision seed) = false
+costs (Check claim bytes) = false
 costs _ = true
 
 -- the commands that compare digests or tags
 abbrev pub compares : Command → Bool
 compares (Unseal bytes) = true
 compares (CheckNext bytes) = true
+compares (Check claim bytes) = true
 compares (Increment id) = true
 compares _ = false
 
@@ -57,6 +66,8 @@ Reply (ReadRegister r) = Result (List ℕ) registers.Refusal
 Reply (Seal bytes counter ahead) = Result (List ℕ) seals.Refusal
 Reply (Unseal bytes) = Result (List ℕ) unseals.Refusal
 Reply (CheckNext bytes) = Result ℕ unseals.Refusal
+Reply (Quote nonce) = Result (List ℕ) quotes.Refusal
+Reply (Check claim bytes) = Result Bool quotes.Refusal
 Reply NewCounter = Result ℕ creates.Refusal
 Reply (ReadCounter id) = Result ℕ reads.Refusal
 Reply (Increment id) = Result ℕ increments.Refusal
@@ -100,6 +111,8 @@ act R (Seal bytes counter ahead) d =
     with_keys seals.Unprovisioned d (seal R bytes counter ahead d) d.keys
 act R (Unseal bytes) d = with_keys unseals.Unprovisioned d (unseal R bytes d) d.keys
 act R (CheckNext bytes) d = with_keys unseals.Unprovisioned d (check_next R bytes d) d.keys
+act R (Quote nonce) d = with_keys quotes.Unprovisioned d (quote R nonce d) d.keys
+act R (Check claim bytes) d = with_keys quotes.Unprovisioned d (check R claim bytes d) d.keys
 act R NewCounter d = with_counters d (create (present_chain R d) d.counters)
 act R (ReadCounter id) d = (d, read id d.counters)
 act R (Increment id) d =

@@ -1,9 +1,10 @@
 -- The platform of digests: a chain is kept as the 20 bytes that it shows, nothing is kept of what
--- was sealed, and a blob is whatever has the form and the tag of one.
+-- was sealed or quoted, and a blob is whatever has the form and the tag of one, as is a quote.
 use Rattle.std.specs.Prelude.{ℕ, List, Option, bytes_eq}
 use Rattle.tpm_state.specs.Chain.{start_value, extended_value}
 use Rattle.flk_base.specs.Plan.{Plan}
 use Rattle.flk_base.specs.Stop.{Fused, fused}
+use Rattle.seal_device.specs.Quoted.{quote_bytes}
 use Rattle.seal_device.specs.Blobs.{parsed}
 use Rattle.seal_device.specs.Rules.{Device, Rules}
 use Rattle.seal_device.specs.Commands.{Command, Reply, act, costs}
@@ -21,7 +22,9 @@ digests = record {
   same = bytes_eq;
   nothing_made = tt;
   remembered = λ r made. tt;
+  with_quote = λ q made. tt;
   opened = λ keys made bytes. parsed keys bytes;
+  says = λ keys made claim bytes. bytes_eq (quote_bytes keys claim) bytes;
 }
 
 -- a plan on a device of digests with a fuse: what stands after it, and its value unless power was

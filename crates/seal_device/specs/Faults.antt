@@ -6,6 +6,7 @@ use Rattle.seal_device.specs.Refusals.Register as registers
 use Rattle.seal_device.specs.Refusals.Seed as seeds
 use Rattle.seal_device.specs.Refusals.Seal as seals
 use Rattle.seal_device.specs.Refusals.Unseal as unseals
+use Rattle.seal_device.specs.Refusals.Quote as quotes
 use Rattle.seal_device.specs.Refusals.Random as randoms
 use Rattle.tpm_state.specs.Refusals.Create as creates
 use Rattle.tpm_state.specs.Refusals.ReadCounter as reads
@@ -19,6 +20,8 @@ use Rattle.seal_device.specs.declared.faults.UnsealFault.{UnsealFault}
 use Rattle.seal_device.specs.declared.faults.UnsealFault.TheVariants as unseal_faults
 use Rattle.seal_device.specs.declared.faults.CounterFault.{CounterFault}
 use Rattle.seal_device.specs.declared.faults.CounterFault.TheVariants as counter_faults
+use Rattle.seal_device.specs.declared.faults.QuoteFault.{QuoteFault}
+use Rattle.seal_device.specs.declared.faults.QuoteFault.TheVariants as quote_faults
 use Rattle.seal_device.specs.declared.faults.RandomFault.{RandomFault}
 use Rattle.seal_device.specs.declared.faults.RandomFault.TheVariants as random_faults
 
@@ -64,6 +67,10 @@ abbrev pub increment_fault : increments.Refusal → CounterFault
 increment_fault increments.NoCounter = counter_faults.NoCounter
 increment_fault increments.NotOwner = counter_faults.NotOwner
 increment_fault increments.End = counter_faults.End
+
+-- the error where nothing is quoted
+abbrev pub quote_fault : quotes.Refusal → QuoteFault
+quote_fault quotes.Unprovisioned = quote_faults.Unprovisioned
 
 -- the error where no random word is drawn
 abbrev pub random_fault : randoms.Refusal → RandomFault

@@ -2,9 +2,11 @@ pub mod Refusals
 pub mod Keys
 pub mod Sealed
 pub mod Blobs
+pub mod Quoted
 pub mod Rules
 pub mod Bearings
 pub mod Sealing
+pub mod Quoting
 pub mod Drawing
 pub mod Commands
 pub mod Digests

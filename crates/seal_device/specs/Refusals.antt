@@ -5,3 +5,4 @@ pub mod Seed
 pub mod Seal
 pub mod Unseal
 pub mod Random
+pub mod Quote

@@ -94,7 +94,7 @@ pub fn opening_law<X>()
         read b.id between.counters ≡ Ok value → b.value ≤ value →
         (id : ℕ) → (act lists (Command.CheckNext blob) later).1 ≢ Ok id }
     ensures not_blob { (d : ListDevice) (keys : Keys) (bytes : List ℕ) → d.keys ≡ Some keys →
-        ((r : Sealed Chain) → Contains d.made r → blob_of keys r ≢ bytes) →
+        ((r : Sealed Chain) → Contains d.made.records r → blob_of keys r ≢ bytes) →
         (act lists (Command.Unseal bytes) d ≡ (d, Err unseals.NotBlob))
         × (act lists (Command.CheckNext bytes) d ≡ (d, Err unseals.NotBlob)) }
     ensures opened { (d : ListDevice) (bytes content : List ℕ) →

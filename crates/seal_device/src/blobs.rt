@@ -10,7 +10,7 @@ ghost use Rattle.seal_device.specs.Blobs.{bearing_of, blob_counter};
 use crate::bearings::Borne;
 use crate::keys::Keys;
 use byteorder::{BigEndian, ByteOrder};
-use flk_hmac::{mac, mask};
+use flk_hmac::{is_same, mac, mask};
 
 /// How many bytes may be sealed together.
 pub const LONGEST_SEALED: usize = 2_048;
@@ -147,17 +147,6 @@ fn is_formed(blob: &[u8]) -> bool
         && blob.len() == HEAD_LEN + length + TAG_LEN
 }
 
-// Whether two tags are the same. All bytes are looked at, also after one that differs.
-fn is_same_tag(one: &[u8; TAG_LEN], other: &[u8; TAG_LEN]) -> bool
-    ensures { result ≡ bytes_eq one.now other.now }
-{
-    let mut same = true;
-    for i in 0..TAG_LEN {
-        same &= one[i] == other[i];
-    }
-    same
-}
-
 // Whether bytes have the form of a blob and the tag.
 pub(crate) fn is_tagged(keys: &Keys, blob: &[u8]) -> bool
     ensures tag { result ≡ tag_ok keys.now blob.now }
@@ -168,9 +157,7 @@ pub(crate) fn is_tagged(keys: &Keys, blob: &[u8]) -> bool
         return false;
     }
     let (front, tag) = blob.split_at(HEAD_LEN + length_in(blob));
-    let mut shown = [0; TAG_LEN];
-    shown.copy_from_slice(tag);
-    is_same_tag(&shown, &mac(&keys.sealing, front))
+    is_same(tag, &mac(&keys.sealing, front))
 }
 
 // The bytes that were sealed in a blob stand in the buffer's first ones, and their length is given.

@@ -1,5 +1,6 @@
 // The device.
 ghost use Rattle.std.specs.Prelude.{◌≡◌, ◌<◌, ◌≤◌, ◌++◌, ◌+◌, length, Some, IfOk, OnOk, is_ok};
+ghost use Rattle.std.specs.Option.{option_map};
 ghost use Rattle.std.specs.Prelude.{if◌then◌else◌};
 ghost use Rattle.tpm_state.specs.Refusals.Create as creates;
 ghost use Rattle.tpm_state.specs.Refusals.ReadCounter as reads;
@@ -13,14 +14,14 @@ ghost use Rattle.seal_device.specs.Commands.{Command, act, blank};
 ghost use Rattle.seal_device.specs.Digests.{digests, on_device};
 ghost use Rattle.seal_device.specs.Faults.{power_lost, register_fault, provision_answer};
 ghost use Rattle.seal_device.specs.Faults.{seal_fault, unseal_fault, create_fault, read_fault};
-ghost use Rattle.seal_device.specs.Faults.{increment_fault, random_fault};
+ghost use Rattle.seal_device.specs.Faults.{increment_fault, quote_fault, random_fault};
 
 use crate::bearings::{awaited, bearing_to_seal, is_standing};
 use crate::blobs::{
     BLOB_ROOM, LONGEST_SEALED, borne_in, is_chain, is_tagged, unmask_into, write_blob,
 };
 use crate::faults::{
-    CounterFault, Provisioned, RandomFault, RegisterFault, SealFault, UnsealFault,
+    CounterFault, Provisioned, QuoteFault, RandomFault, RegisterFault, SealFault, UnsealFault,
 };
 use crate::keys::Keys;
 use flk_base::{Fuse, PowerLost};
@@ -292,6 +293,33 @@ impl Device {
         let word = keys.word(self.drawn);
         self.drawn += 1;
         Ok(word)
+    }
+
+    /// The quote of register 17's present value for a nonce, 40 bytes: the value, and its tag under
+    /// the key for quotes. It changes nothing but the fuse.
+    pub fn quote(&self, nonce: &[u8; 20], fuse: &mut Fuse) -> Result<[u8; 40], QuoteFault>
+        ensures { Ends (reported quote_fault QuoteFault.PowerLost)
+            (on_device (ask (Command.Quote nonce.now)) (with_fuse self.now fuse.old.left))
+            (with_fuse self.now fuse.new.left) result }
+    {
+        if fuse.step().is_err() {
+            return Err(QuoteFault::PowerLost);
+        }
+        match &self.keys {
+            None => Err(QuoteFault::Unprovisioned),
+            Some(keys) => Ok(keys.quote(nonce, &self.present_value())),
+        }
+    }
+
+    /// The key for quotes, which whoever checks them needs; None exactly where the device has no
+    /// seed. It takes no step.
+    pub fn quote_key(&self) -> Option<[u8; 20]>
+        ensures { result ≡ option_map (λ keys. keys.quoting) self.now.keys }
+    {
+        match &self.keys {
+            None => None,
+            Some(keys) => Some(keys.quoting),
+        }
     }
 
     /// Register 17's value.

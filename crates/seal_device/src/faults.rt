@@ -65,6 +65,16 @@ pub enum CounterFault {
     PowerLost = 5,
 }
 
+/// Why register 17 was not quoted, with the number of the fault. After lost power the order of trial
+/// is that of the list.
+#[derive(Clone, Copy, Debug, PartialEq, Eq)]
+pub enum QuoteFault {
+    /// The device has no seed.
+    Unprovisioned = 6,
+    /// The power was lost before the step.
+    PowerLost = 5,
+}
+
 /// Why no random word was drawn, with the number of the fault. After lost power the order of trial
 /// is that of the list.
 #[derive(Clone, Copy, Debug, PartialEq, Eq)]

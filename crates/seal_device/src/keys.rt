@@ -1,9 +1,10 @@
 // The keys of a device.
 ghost use Rattle.std.specs.Prelude.{◌≡◌};
+ghost use Rattle.flk_hmac.specs.Quotes.{quote_of};
 ghost use Rattle.seal_device.specs.Keys.{keys_of};
 ghost use Rattle.seal_device.specs.Drawing.{random_word};
 
-use flk_hmac::{derive, mac};
+use flk_hmac::{derive, mac, quote_of};
 use std::marker::Model;
 
 /// The four keys that a seed gives, 20 bytes each.
@@ -11,7 +12,7 @@ use std::marker::Model;
 pub(crate) struct Keys {
     pub(crate) sealing: [u8; 20],
     pub(crate) masking: [u8; 20],
-    quoting: [u8; 20],
+    pub(crate) quoting: [u8; 20],
     drawing: [u8; 20],
 }
 
@@ -39,6 +40,13 @@ impl Keys {
             quoting: derive(seed, b"flk-quote"),
             drawing: derive(seed, b"flk-rand"),
         }
+    }
+
+    /// The quote of a register's value for a nonce.
+    pub(crate) fn quote(&self, nonce: &[u8; 20], value: &[u8; 20]) -> [u8; 40]
+        ensures { result ≡ quote_of self.now.quoting nonce.now value.now }
+    {
+        quote_of(&self.quoting, nonce, value)
     }
 
     /// The random word of this number.

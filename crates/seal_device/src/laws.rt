@@ -1,26 +1,28 @@
 // Laws of the commands on a device of lists and on one of digests (specs/). Each function does
 // nothing: its clauses are laws, which are proved because they stand here.
 ghost use Rattle.std.specs.Prelude.{◌≡◌, ◌≢◌, ◌<◌, ◌≤◌, ◌+◌, ◌^◌, Bool, true, false, List, ℕ};
-ghost use Rattle.std.specs.Prelude.{length, Option, Some, None, Ok, Err, slice_get, All, Contains};
+ghost use Rattle.std.specs.Prelude.{[], length, Option, Some, None, Ok, Err, slice_get, All, Contains};
 ghost use Rattle.flk_base.specs.Plan.{Plan, ask, EndAlike};
 ghost use Rattle.flk_base.specs.Stop.{Limit, Fused, with_fuse, limited, fused};
 ghost use Rattle.tpm_state.specs.Chain.{Chain, value, power_start, register_count};
 ghost use Rattle.tpm_state.specs.Counters.{Counter, no_counters, counter_at, InRange, Grew};
 ghost use Rattle.tpm_state.specs.Counters.{Created, Incremented};
 ghost use Rattle.seal_device.specs.Keys.{Keys, keys_of};
+ghost use Rattle.seal_device.specs.Quoted.{Quoted};
 ghost use Rattle.seal_device.specs.Rules.{Device, Rules};
 ghost use Rattle.seal_device.specs.Refusals.Seed as seeds;
 ghost use Rattle.seal_device.specs.Refusals.Seal as seals;
 ghost use Rattle.seal_device.specs.Refusals.Unseal as unseals;
+ghost use Rattle.seal_device.specs.Refusals.Quote as quotes;
 ghost use Rattle.seal_device.specs.Refusals.Random as randoms;
 ghost use Rattle.seal_device.specs.Sealing.{present_chain};
 ghost use Rattle.seal_device.specs.Drawing.{last_word, random_word};
 ghost use Rattle.seal_device.specs.Commands.{Command, Reply, act, blank, compares, costs};
 ghost use Rattle.seal_device.specs.Commands.{launch_register, launch_start};
 ghost use Rattle.seal_device.specs.Digests.{DigestDevice, digests, on_device};
-ghost use Rattle.seal_device.specs.Ledger.{Ledger, no_ledger, hashed_by, noted, Clean};
+ghost use Rattle.seal_device.specs.Ledger.{Ledger, no_ledger, strings, hashed_by, noted, Clean};
 ghost use Rattle.seal_device.specs.Lists.{ListDevice, lists};
-ghost use Rattle.seal_device.specs.Agreement.{strings, Knows, digested, reply_digested};
+ghost use Rattle.seal_device.specs.Agreement.{Knows, digested, reply_digested};
 ghost use Rattle.seal_device.specs.Agreement.{fused_digested, end_digested, Noted, Agrees};
 ghost use Rattle.seal_device.specs.Agreement.{FusedAgree, FairPlan, UnforgedPlan, ComparesNothing};
 
@@ -38,9 +40,10 @@ pub fn digested_is_a_homomorphism<X>()
 {}
 
 /// The ledger has what a device of lists knows after each command, and after each plan, wherever
-/// its fuse stops it: the strings of its chains and of its records, and the records' blobs. An
-/// empty one has what a device knows that was never used. What strings a command adds to it the
-/// device knows after it.
+/// its fuse stops it: the strings of its chains, of its records and of its quotes, the records'
+/// blobs, and the quotes' bytes. An empty one has what a device knows that was never used. What
+/// strings a command adds to it the device knows after it, but for a check, which adds those of the
+/// chain that the quote is claimed to be of, where there are keys to check it by.
 pub fn ledger_has_what_is_known<X>()
     ensures command { (c : Command) (d : ListDevice) (ledger : Ledger) → Noted d ledger →
         Noted (noted lists c (d, ledger)).0.0 (noted lists c (d, ledger)).0.1 }
@@ -50,7 +53,13 @@ pub fn ledger_has_what_is_known<X>()
         (fused costs (noted lists) plan before).0.state.1 }
     ensures blank { Noted (blank lists) no_ledger }
     ensures only { (c : Command) (d : ListDevice) → length d.chains ≡ register_count →
+        ((claim : Quoted Chain) (bytes : List ℕ) → c ≢ Command.Check claim bytes) →
         All (Knows (act lists c d).0) (hashed_by lists c d) }
+    ensures checked { (claim : Quoted Chain) (bytes : List ℕ) (d : ListDevice) (keys : Keys) →
+        d.keys ≡ Some keys →
+        hashed_by lists (Command.Check claim bytes) d ≡ strings claim.chain }
+    ensures unchecked { (claim : Quoted Chain) (bytes : List ℕ) (d : ListDevice) →
+        d.keys ≡ None → hashed_by lists (Command.Check claim bytes) d ≡ [] }
 {}
 
 /// From devices that agree, a plan that is fair as far as its fuse lets it run ends alike on both:
@@ -138,6 +147,10 @@ pub fn commands_by_registers<H, M>()
         (act R (Command.Unseal bytes) d).0 ≡ d }
     ensures check_next { (R : Rules H M) (bytes : List ℕ) (d : Device H M) →
         (act R (Command.CheckNext bytes) d).0 ≡ d }
+    ensures quote { (R : Rules H M) (nonce : List ℕ) (d : Device H M) →
+        (act R (Command.Quote nonce) d).0.chains ≡ d.chains }
+    ensures check { (R : Rules H M) (claim : Quoted Chain) (bytes : List ℕ) (d : Device H M) →
+        (act R (Command.Check claim bytes) d).0 ≡ d }
     ensures new_counter { (R : Rules H M) (d : Device H M) →
         (act R Command.NewCounter d).0.chains ≡ d.chains }
     ensures read_counter { (R : Rules H M) (id : ℕ) (d : Device H M) →
@@ -152,7 +165,7 @@ pub fn commands_by_registers<H, M>()
 
 /// What commands do to the keys, to the serial and to the count of random words, by the rules of
 /// any platform. The keys of a seed come once, and then stay. Without them nothing is sealed,
-/// unsealed, tried or drawn. What is sealed gets the serial, and the next one is one more: it never
+/// unsealed, tried, quoted, checked or drawn. What is sealed gets the serial, and the next one is one more: it never
 /// falls, and stays below 2^64; what is refused changes nothing, and no other command changes the
 /// serial. So it is with the number of the next random word, and no other command draws one.
 pub fn commands_by_keys<H, M>()
@@ -169,6 +182,11 @@ pub fn commands_by_keys<H, M>()
         act R (Command.Unseal bytes) d ≡ (d, Err unseals.Unprovisioned) }
     ensures no_keys_to_try { (R : Rules H M) (bytes : List ℕ) (d : Device H M) → d.keys ≡ None →
         act R (Command.CheckNext bytes) d ≡ (d, Err unseals.Unprovisioned) }
+    ensures no_keys_to_quote { (R : Rules H M) (nonce : List ℕ) (d : Device H M) →
+        d.keys ≡ None → act R (Command.Quote nonce) d ≡ (d, Err quotes.Unprovisioned) }
+    ensures no_keys_to_check { (R : Rules H M) (claim : Quoted Chain) (bytes : List ℕ)
+        (d : Device H M) → d.keys ≡ None →
+        act R (Command.Check claim bytes) d ≡ (d, Err quotes.Unprovisioned) }
     ensures no_keys_to_draw { (R : Rules H M) (d : Device H M) → d.keys ≡ None →
         act R Command.Random d ≡ (d, Err randoms.Unprovisioned) }
     ensures sealed { (R : Rules H M) (bytes blob : List ℕ) (counter : Option ℕ) (ahead : Bool)
@@ -224,12 +242,14 @@ pub fn commands_by_counters<H, M, X>()
         ((id : ℕ) → c ≢ Command.Increment id) → (act R c d).0.counters ≡ d.counters }
 {}
 
-/// A command that costs nothing, as power-on and the taking of a seed, takes nothing from the fuse
-/// and is done at any. Each other command takes a step; where the fuse has none left the power is
+/// A command that costs nothing, as power-on, the taking of a seed and the check of a quote, takes
+/// nothing from the fuse and is done at any. Each other command takes a step; where the fuse has none left the power is
 /// lost before it, and nothing changes.
 pub fn commands_and_the_fuse()
     ensures power_on { costs Command.PowerOn ≡ false }
     ensures provision { (seed : List ℕ) → costs (Command.Provision seed) ≡ false }
+    ensures check { (claim : Quoted Chain) (bytes : List ℕ) →
+        costs (Command.Check claim bytes) ≡ false }
     ensures free { (c : Command) (before : Fused DigestDevice) → costs c ≡ false →
         on_device (ask c) before ≡ (
           with_fuse (act digests c before.state).0 before.fuse,

@@ -79,8 +79,9 @@ impl Bank {
     }
 }
 
-// The value that a text, in two parts, makes of a value.
-fn extended_value(value: &[u8; 20], prefix: &[u8], text: &[u8]) -> [u8; 20]
+/// The value that a register shows, once it showed a value and was extended by the text that `prefix`
+/// and `text` are together.
+pub fn extended_value(value: &[u8; 20], prefix: &[u8], text: &[u8]) -> [u8; 20]
     ensures { result ≡ extended_value value.now (prefix.now ++ text.now) }
 {
     let mut inner = Sha1::new();

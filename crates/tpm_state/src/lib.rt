@@ -6,7 +6,7 @@ mod bank;
 mod counters;
 mod laws;
 
-pub use bank::{Bank, NoRegister};
+pub use bank::{Bank, NoRegister, extended_value};
 pub use counters::{CounterFault, Counters};
 pub use laws::{
     calls_by_counters, counters_by_owners, counters_only_grow, counters_stay_in_range,

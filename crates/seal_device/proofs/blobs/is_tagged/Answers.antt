@@ -10,9 +10,9 @@ returns-then-not-is_formed-clause-tag c =
 
 pub returns-clause-tag : goal.returns-clause-tag
 returns-clause-tag c =
-    c.is_same_tag.ensures
-    ∙ ap (bytes_eq c.copy_from_slice.new.self) c.mac.ensures
+    c.is_same.ensures
+    ∙ ap (bytes_eq c.split_at.result.1.now) c.mac.ensures
     ∙ tag_ok-formed c.args.keys.now c.args.blob.now _ _ _ _
     (sym c.is_formed.ensures ∙ c.if-not-is_formed.false)
     (ap (λ (k : Keys). k.sealing) c.keys.view_is) c.length_in.ensures c.split_at.ensures.front
-    (c.copy_from_slice.ensures.after ∙ c.split_at.ensures.back)
+    c.split_at.ensures.back

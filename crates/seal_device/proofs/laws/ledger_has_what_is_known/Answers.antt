@@ -9,7 +9,7 @@ pub returns-clause-plan : goal.returns-clause-plan
 returns-clause-plan g c = λ plan before known. plan_noted plan before known
 
 pub returns-clause-only : goal.returns-clause-only
-returns-clause-only g c = λ command d count. known_after command d count
+returns-clause-only g c = λ command d count other. known_after command d count other
 
 pub returns-clause-blank : goal.returns-clause-blank
 returns-clause-blank g c = blank_noted

@@ -1,4 +1,4 @@
--- What register 17 goes through in a session, as the one who checks a quote describes it.
+-- What register 17 goes through in a session, as one describes it who was not there.
 use Rattle.std.specs.Prelude.{ℕ, List, [], ◌∷◌, ◌++◌, map, codes}
 use Rattle.tpm_state.specs.Chain.{Zeros, Chain, From, ◌▷◌, extended_value}
 

@@ -1,4 +1,4 @@
--- Two tags are compared byte by byte, to the end.
+-- Two lists of bytes are compared byte by byte, to the end.
 use Rattle.std.proofs.Common.{◌≡◌, ℕ, ◌+◌, ◌<◌, ◌&&◌, Bool, true, false, eqb, List, length, get_or}
 use Rattle.std.proofs.Common.{refl, sym, ◌∙◌, arith, below_more}
 use Rattle.std.specs.Prelude.{bytes_eq}

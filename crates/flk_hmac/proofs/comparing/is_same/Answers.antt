@@ -1,6 +1,6 @@
 use Rattle.std.proofs.Common.{arith}
-use Rattle.quote_check.proofs.Comparing.{same_none, same_more, same_all}
-use Rattle.quote_check.proofs.quotes.is_same_quote.Goals as goal
+use Rattle.flk_hmac.proofs.Sameness.{same_none, same_more, same_all}
+use Rattle.flk_hmac.proofs.comparing.is_same.Goals as goal
 
 pub loop-i-init : goal.loop-i-init
 loop-i-init c = same_none _ _
