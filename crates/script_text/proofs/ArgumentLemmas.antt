@@ -1,15 +1,16 @@
 -- Reading the arguments of a command one after another.
-use Rattle.std.proofs.Common.{◌≡◌, ℕ, Bool, true, false, cond, List, [], ◌∷◌, ◌++◌, length, refl, sym, ap, ◌∙◌, append_assoc, append-nil, arith}
+use Rattle.std.proofs.Common.{◌≡◌, ℕ, Bool, true, false, cond, List, [], ◌∷◌, ◌++◌, length, length-drop, drop, ◌+◌, ◌<◌, ◌≤◌, refl, sym, ap, ◌∙◌, append_assoc, append-nil, arith}
 use Rattle.std.specs.Prelude.{Option, Some, None, IfSome, Result, Ok, Err}
 use Rattle.std.specs.Option.{ok_or}
 use Rattle.std.specs.Str.{bytes_eq}
 use Rattle.flk_base.specs.Checks.{◌>>=◌}
 use Rattle.expr_text.specs.Numbers.{number_of}
-use Rattle.expr_text.specs.Expressions.{is_name}
-use Rattle.expr_text.specs.ExpressionReading.{expression_of}
+use Rattle.expr_text.specs.Expressions.{Term, is_name}
+use Rattle.expr_text.specs.ExpressionReading.{all_of, expression_of}
+use Rattle.std.proofs.lemmas.List.{drop_more}
 use Rattle.script_text.specs.Arguments.{Value, as_value, as_values, IsOf, typed_one, typed, request_from, value_in, values_in}
 use Rattle.script_text.specs.Grammar.{Meaning, Meanings, Request, image_kind_word, register_of, row, request}
-use Rattle.script_text.specs.Reading.{meaning_in, each_in, command_for, command_in, IsEarly, IsLate}
+use Rattle.script_text.specs.Reading.{meaning_in, each_in, texts_in, command_for, command_in, IsEarly, IsLate}
 use Rattle.script_text.specs.declared.command.Kind.{Kind}
 use Rattle.script_text.specs.declared.command.Kind.TheVariants.{Number, Name, ImageKind, Register, Expression}
 use Rattle.script_text.specs.declared.command.Command.{Command}
@@ -18,7 +19,7 @@ use Rattle.script_text.specs.declared.line.LineError.{LineError}
 use Rattle.script_text.specs.declared.line.LineError.TheVariants.{Fault, NoMemory}
 use Rattle.script_text.specs.declared.line.LineFault.{LineFault}
 use Rattle.script_text.specs.declared.line.LineFault.TheVariants as fault
-use Rattle.script_text.proofs.ReadingLemmas.{fitting}
+use Rattle.script_text.proofs.ReadingLemmas.{fitting, no_fewer}
 
 -- what was read, and what is read after it
 abbrev pub after : List Value → Result (List Value) LineFault → Result (List Value) LineFault
@@ -97,11 +98,26 @@ module _ (kind : Kind) (kinds : List Kind) where
 
 -- no word is left
 pub read_end : (left : List Kind) (line : List (List ℕ)) (known : List Value)
-    (all : Result (List Value) LineFault) → left ≡ [] → length line ≡ length left
+    (all : Result (List Value) LineFault) → left ≡ []
     → after known (values_in left line) ≡ all → all ≡ Ok known
-read_end [] [] known all none same before = sym before ∙ ap Ok (append-nil known)
-read_end [] (word ∷ others) known all none same before = absurd (omega arith)
-read_end (kind ∷ kinds) line known all none same before = cc
+read_end [] line known all none before = sym before ∙ ap Ok (append-nil known)
+read_end (kind ∷ kinds) line known all none before = cc
+
+-- a word is left
+pub some_left : (words : List (List ℕ)) (i most : ℕ) (left : List (List ℕ)) → left ≡ drop i words
+    → most ≤ length words → i < most → left ≡ [] → ⊥
+some_left words i most left before enough low none =
+    absurd (omega (arith, length-drop i words, ap length before, ap length none))
+
+-- one more word is taken
+pub next_left : (words : List (List ℕ)) (i : ℕ) (left : List (List ℕ)) (word : List ℕ)
+    (others : List (List ℕ)) → left ≡ drop i words → left ≡ word ∷ others
+    → others ≡ drop (i + 1) words
+next_left words i left word others before now =
+    let here : word ∷ others ≡ drop i words = sym now ∙ before in
+    let low : i < length words = omega (arith, length-drop i words, ap length here) in
+    let more = drop_more words i word low in
+    cc
 
 -- ---- faults that are late
 
@@ -134,23 +150,25 @@ late_word ImageKind word =
 late_word Register word = late_or (register_of word) fault.Name (λ early. early)
 late_word Expression word = late_or (expression_of word) fault.Expression (λ early. early)
 
-late_each : (kinds : List Kind) (others : List (List ℕ)) → length others ≡ length kinds
+late_each : (kinds : List Kind) (others : List (List ℕ)) → length kinds ≤ length others
     → IsLate (each_in kinds others)
-late_each [] [] same = tt
-late_each [] (word ∷ others) same = absurd (omega arith)
-late_each (kind ∷ kinds) [] same = absurd (omega arith)
-late_each (kind ∷ kinds) (word ∷ others) same =
+late_each [] others enough = tt
+late_each (kind ∷ kinds) [] enough = absurd (omega arith)
+late_each (kind ∷ kinds) (word ∷ others) enough =
     late_bind (meaning_in kind word) _ (late_word kind word)
     (λ meaning. late_bind (each_in kinds others) _ (late_each kinds others (omega arith))
     (λ meanings. tt))
 
--- where there are as many words as a command wants, only they can be wrong
+-- where there are no fewer words than a command wants, only they can be wrong
 pub late_command : (word : List ℕ) (command : Command) (others : List (List ℕ))
     → command_for word (length others) ≡ Ok command → IsLate (command_in word others)
 late_command word command others known =
-    let same = (fitting word (length others) command known).1 in
+    let enough = no_fewer _ _ _ (fitting word (length others) command known).1 in
     rw known (late_bind (each_in (row command).kinds others) _
-    (late_each (row command).kinds others same) (λ arguments. tt))
+    (late_each (row command).kinds others enough)
+    (λ arguments. late_bind (texts_in (row command).kinds others) _
+    (late_or (all_of expression_of (drop (length (row command).kinds) others)) fault.Expression
+    (λ early. early)) (λ texts. tt)))
 
 -- ---- values by their kinds
 
@@ -188,23 +206,38 @@ typed_values (kind ∷ kinds) meanings =
 
 module _ (word : List ℕ) (command : Command) (others : List (List ℕ))
     (known : command_for word (length others) ≡ Ok command) where
-  from_meanings : (meanings : Meanings (row command).kinds)
-      → request_from command (as_values (row command).kinds meanings)
-      ≡ Some (request command meanings)
-  from_meanings meanings = rw (typed_values (row command).kinds meanings) refl
+  from_meanings : (meanings : Meanings (row command).kinds) (texts : List (List Term))
+      → request_from command (as_values (row command).kinds meanings) texts
+      ≡ Some (request command meanings texts)
+  from_meanings meanings texts = rw (typed_values (row command).kinds meanings) refl
 
-  -- the values that were read make what the line asks for
-  pub made : (values : List Value) (asked : Request)
-      → values_in (row command).kinds others ≡ Ok values → request_from command values ≡ Some asked
-      → command_in word others ≡ Ok asked
-  made values asked h makes =
-      let v = values_are (row command).kinds (each_in (row command).kinds others) values h in
-      let from : request_from command values
-      ≡ Some (request command v.0) = ap (request_from command) v.2 ∙ from_meanings v.0 in
-      let same : request command v.0 ≡ asked = cc in
-      rw (known, v.1) (ap Ok same)
+  module _ (values : List Value) (read : values_in (row command).kinds others ≡ Ok values) where
+    -- the values and texts that were read make what the line asks for
+    pub made : (texts : List (List Term)) (asked : Request)
+        → texts_in (row command).kinds others ≡ Ok texts
+        → request_from command values texts ≡ Some asked
+        → command_in word others ≡ Ok asked
+    made texts asked h makes =
+        let v = values_are (row command).kinds (each_in (row command).kinds others) values read in
+        let from : request_from command values texts ≡ Some (request command v.0 texts) =
+        ap (λ vs. request_from command vs texts) v.2 ∙ from_meanings v.0 texts in
+        let same : request command v.0 texts ≡ asked = cc in
+        rw (known, v.1, h) (ap Ok same)
 
-  -- a fault of theirs is the line's
+    unmade_text : (why : LineFault) → texts_in (row command).kinds others ≡ Err why
+        → command_in word others ≡ Err why
+    unmade_text why h =
+        let v = values_are (row command).kinds (each_in (row command).kinds others) values read in
+        rw (known, v.1, h) refl
+
+    -- an error of the texts is the line's
+    pub unmade_by_text : (error : LineError)
+        → IfSome (line_fault error) (λ why. texts_in (row command).kinds others ≡ Err why)
+        → IfSome (line_fault error) (λ why. command_in word others ≡ Err why)
+    unmade_by_text (Fault why) h = unmade_text why h
+    unmade_by_text NoMemory h = h
+
+  -- a fault of the values is the line's
   unmade : (why : LineFault) → values_in (row command).kinds others ≡ Err why
       → command_in word others ≡ Err why
   unmade why h = rw (
@@ -213,7 +246,7 @@ module _ (word : List ℕ) (command : Command) (others : List (List ℕ))
         (each_in (row command).kinds others) why h,
   ) refl
 
-  -- an error of theirs is the line's
+  -- an error of the values is the line's
   pub unmade_by : (error : LineError)
       → IfSome (line_fault error) (λ why. values_in (row command).kinds others ≡ Err why)
       → IfSome (line_fault error) (λ why. command_in word others ≡ Err why)

@@ -1,14 +1,16 @@
 -- What a function answers, where memory runs out only where it may.
-use Rattle.std.proofs.Common.{◌≡◌, inl, inr, ℕ, List, true, false, refl, ap, subst, ◌∙◌}
+use Rattle.std.proofs.Common.{◌≡◌, inl, inr, ℕ, List, [], length, drop, true, false, refl, ap, subst, ◌∙◌}
 use Rattle.std.specs.Prelude.{Result, Ok, Err, IsOk}
+use Rattle.std.proofs.lemmas.Bool.{cases_Bool}
 use Rattle.flk_base.specs.Checks.{Gives}
+use Rattle.expr_text.specs.Expressions.{Term}
 use Rattle.script_text.specs.Lines.{words, content}
 use Rattle.script_text.specs.Grammar.{Request, Nothing, Meanings, row, request, is_comment, SpellsCommand, SpellsWords}
-use Rattle.script_text.specs.Reading.{IsEarly, IsLate, may_allocate, words_may_allocate, reading}
+use Rattle.script_text.specs.Reading.{IsEarly, IsLate, is_count, may_allocate, words_may_allocate, reading}
 use Rattle.script_text.specs.Seen.{line_fault, request_of}
 use Rattle.script_text.specs.declared.command.Command.{Command}
 use Rattle.script_text.specs.declared.command.Command.TheVariants.{Device, Values, Memory, Processor}
-use Rattle.script_text.specs.declared.command.DeviceCommand.TheVariants.{Extend}
+use Rattle.script_text.specs.declared.command.DeviceCommand.TheVariants.{Extend, Check}
 use Rattle.script_text.specs.declared.command.ValuesCommand.TheVariants.{Let}
 use Rattle.script_text.specs.declared.command.MemoryCommand.TheVariants.{Take}
 use Rattle.script_text.specs.declared.command.ProcessorCommand.TheVariants.{SetReg}
@@ -17,22 +19,40 @@ use Rattle.script_text.specs.declared.line.Event.TheVariants as event
 use Rattle.script_text.specs.declared.line.LineFault.{LineFault}
 use Rattle.script_text.specs.declared.line.LineError.{LineError}
 use Rattle.script_text.specs.declared.line.LineError.TheVariants.{Fault, NoMemory}
-use Rattle.script_text.proofs.ReadingLemmas.{found, listed, each_length}
+use Rattle.script_text.proofs.ReadingLemmas.{found, listed, may_follow, none_left}
 
 -- the words that spell a command's request may allocate as the command does
 pub words_of : (asked : Request) (line : List (List ℕ)) (s : SpellsCommand asked line)
     → words_may_allocate line ≡ may_allocate (row s.command).kinds
 words_of asked line s =
-    let count = each_length (row s.command).kinds s.others s.arguments s.each in
-    rw (s.whole, count, (listed s.command).found) refl
+    rw (s.whole, (listed s.command).found _ (may_follow asked line s)) refl
+
+-- where more may follow, there are expressions before it
+more_may : (command : Command) → (row command).more ≡ true
+    → may_allocate (row command).kinds ≡ true
+more_may (Device Check) h = refl
+more_may (Values Let) h = refl
+more_may (Memory Take) h = cc
+more_may (Processor SetReg) h = cc
+more_may _ h = cc
+
+-- and so where words are left after the kinds
+pub left_may : (command : Command) (others : List (List ℕ))
+    → is_count (row command).more (length (row command).kinds) (length others) ≡ true
+    → (drop (length (row command).kinds) others ≡ [] → ⊥) → may_allocate (row command).kinds ≡ true
+left_may command others fit some =
+    elim (cases_Bool (row command).more) [
+      | inl more ↦ more_may command more
+      | inr fixed ↦ absurd (some (none_left (row command).more (row command).kinds others fit fixed))
+    ]
 
 asks_something : (command : Command) (arguments : Meanings (row command).kinds)
-    → Nothing ≡ request command arguments → ⊥
-asks_something (Device Extend) arguments h = cc
-asks_something (Values Let) arguments h = cc
-asks_something (Memory Take) arguments h = cc
-asks_something (Processor SetReg) arguments h = cc
-asks_something _ arguments h = cc
+    (texts : List (List Term)) → Nothing ≡ request command arguments texts → ⊥
+asks_something (Device Extend) arguments texts h = cc
+asks_something (Values Let) arguments texts h = cc
+asks_something (Memory Take) arguments texts h = cc
+asks_something (Processor SetReg) arguments texts h = cc
+asks_something _ arguments texts h = cc
 
 blank_event : (x : Event) → request_of x ≡ Nothing → x ≡ event.Blank
 blank_event event.Blank h = refl
@@ -42,7 +62,7 @@ blank_event _ h = cc
 comment_words : (line : List (List ℕ)) → SpellsWords Nothing line → words_may_allocate line ≡ true
     → is_comment line ≡ false → ⊥
 comment_words line (inl none) may other = let is = none.1 in cc
-comment_words line (inr s) may other = asks_something s.command s.arguments s.asks
+comment_words line (inr s) may other = asks_something s.command s.arguments s.texts s.asks
 
 -- an early fault is answered
 pub early_if : {X : Type 0} (view : X

@@ -53,7 +53,7 @@ first_kind (AnExpression terms ∷ others) = Some Expression
 abbrev pub value_in : (kind : Kind) → List ℕ → Result Value LineFault
 value_in kind word = meaning_in kind word >>= λ meaning. Ok (as_value kind meaning)
 
--- the values of words, from the left
+-- the values of the first words, from the left
 abbrev pub values_in : (kinds : List Kind) → List (List ℕ) → Result (List Value) LineFault
 values_in kinds others = each_in kinds others >>= λ meanings. Ok (as_values kinds meanings)
 
@@ -79,6 +79,7 @@ typed (kind ∷ kinds) (v ∷ values) =
     option_and_then (λ meaning. option_map (λ meanings. (meaning, meanings)) (typed kinds values))
     (typed_one kind v)
 
--- what a command asks for with these values
-abbrev pub request_from : Command → List Value → Option Request
-request_from command values = option_map (request command) (typed (row command).kinds values)
+-- what a command asks for with these values and texts
+abbrev pub request_from : Command → List Value → List (List Term) → Option Request
+request_from command values texts =
+    option_map (λ meanings. request command meanings texts) (typed (row command).kinds values)

@@ -1,5 +1,5 @@
 -- The grammar of a line: what it asks for, and the table of the commands.
-use Rattle.std.specs.Prelude.{◌≡◌, ◌⊎◌, ℕ, ◌≤◌, ◌==◌, ◌||◌, ◌&&◌, nat_le, Bool, true, false, List, [], ◌∷◌, length, slice_index, codes, Option, Some, None}
+use Rattle.std.specs.Prelude.{◌≡◌, ◌⊎◌, ℕ, ◌≤◌, ◌==◌, ◌||◌, ◌&&◌, nat_le, Bool, true, false, List, [], ◌∷◌, ◌++◌, length, slice_index, codes, Option, Some, None}
 use Rattle.std.specs.List.{AllPass, position}
 use Rattle.std.specs.Str.{bytes_eq}
 use Rattle.expr_text.specs.Numbers.{number_of}
@@ -10,7 +10,7 @@ use Rattle.script_text.specs.declared.command.Kind.{Kind}
 use Rattle.script_text.specs.declared.command.Kind.TheVariants.{Number, Name, ImageKind, Register, Expression}
 use Rattle.script_text.specs.declared.command.Command.{Command}
 use Rattle.script_text.specs.declared.command.Command.TheVariants.{Device, Values, Memory, Processor}
-use Rattle.script_text.specs.declared.command.DeviceCommand.TheVariants.{Extend, Read, Seed, Unseal, UnsealInto, Counter, Random, RandomInto}
+use Rattle.script_text.specs.declared.command.DeviceCommand.TheVariants.{Extend, Read, Seed, Unseal, UnsealInto, Counter, Random, RandomInto, Quote, QuoteInto, Check}
 use Rattle.script_text.specs.declared.command.ValuesCommand.TheVariants.{Let, Show, Image}
 use Rattle.script_text.specs.declared.command.MemoryCommand.TheVariants.{Take, Give, Poke, Peek, Dma}
 use Rattle.script_text.specs.declared.command.ProcessorCommand.TheVariants.{SetReg, Regs, Arm, Session, SessionInto}
@@ -22,7 +22,10 @@ use Rattle.script_text.specs.declared.command.ProcessorCommand.TheVariants.{SetR
 -- have a device write bytes at a turn of the next session, or to run a session of an image on
 -- inputs, and to bind a name, if there is one, to what it puts out; and of the sealing device to
 -- give it a seed, to open a blob, and to bind a name, if there is one, to what was sealed in it, to
--- show the value of a counter, or to draw a random word, and to bind a name, if there is one, to it
+-- show the value of a counter, to draw a random word, and to bind a name, if there is one, to it, to
+-- have it quote register 17 for a nonce, and to bind a name, if there is one, to the quote, or to
+-- check whether a quote is that of a session of an image on inputs, with its outputs, its end, its
+-- nonce and the texts that it extended by
 pub data Request : Type 0 where
   Nothing : Request
   ExtendBy : (r : ℕ) → (text : List Term) → Request
@@ -44,6 +47,9 @@ pub data Request : Type 0 where
   UnsealOf : (blob : List Term) → (var : Option (List ℕ)) → Request
   CounterOf : (id : ℕ) → Request
   RandomOf : (var : Option (List ℕ)) → Request
+  QuoteOf : (nonce : List Term) → (var : Option (List ℕ)) → Request
+  CheckOf : (quote image inputs outputs : List Term) → (end : ℕ) → (nonce : List Term)
+      → (texts : List (List Term)) → Request
 
 -- ---- words, by their kinds
 
@@ -92,64 +98,85 @@ SpellEach (kind ∷ kinds) meanings [] = ⊥
 SpellEach (kind ∷ kinds) meanings (word ∷ others) =
     Spells kind meanings.0 word × SpellEach kinds meanings.1 others
 
+-- the words spell these texts, each word one expression
+abbrev pub SpellTexts : List (List Term) → List (List ℕ) → Type 0
+SpellTexts [] [] = Unit {0}
+SpellTexts [] (word ∷ others) = ⊥
+SpellTexts (terms ∷ texts) [] = ⊥
+SpellTexts (terms ∷ texts) (word ∷ others) = SpellsExpression terms word × SpellTexts texts others
+
 -- ---- the table
 
--- A command's word, and the kinds of the words after it. A line with a word that may be missing
--- has two rows of one word, without it and with it.
+-- A command's word, the kinds of the words after it, and whether any number of expressions may
+-- follow these. A line with a word that may be missing has two rows of one word, without it and
+-- with it.
 pub record Row : Type 0 where
   pub word : List ℕ
   pub kinds : List Kind
+  pub more : Bool
 
 -- the row of each command
 abbrev pub row : Command → Row
-row (Device Extend) = record { word = codes "extend"; kinds = Number ∷ Expression ∷ [] }
-row (Device Read) = record { word = codes "read"; kinds = Number ∷ [] }
-row (Values Let) = record { word = codes "let"; kinds = Name ∷ Expression ∷ [] }
-row (Values Show) = record { word = codes "show"; kinds = Expression ∷ [] }
+row (Device Extend) = record { word = codes "extend"; kinds = Number ∷ Expression ∷ []; more = false }
+row (Device Read) = record { word = codes "read"; kinds = Number ∷ []; more = false }
+row (Values Let) = record { word = codes "let"; kinds = Name ∷ Expression ∷ []; more = false }
+row (Values Show) = record { word = codes "show"; kinds = Expression ∷ []; more = false }
 row (Values Image) =
-    record { word = codes "image"; kinds = Name ∷ ImageKind ∷ Number ∷ Number ∷ Expression ∷ [] }
-row (Memory Take) = record { word = codes "take"; kinds = Number ∷ [] }
-row (Memory Give) = record { word = codes "give"; kinds = Number ∷ [] }
-row (Memory Poke) = record { word = codes "poke"; kinds = Number ∷ Expression ∷ [] }
-row (Memory Peek) = record { word = codes "peek"; kinds = Number ∷ Number ∷ [] }
-row (Memory Dma) = record { word = codes "dma"; kinds = Number ∷ Expression ∷ [] }
-row (Processor SetReg) = record { word = codes "reg"; kinds = Register ∷ Number ∷ [] }
-row (Processor Regs) = record { word = codes "regs"; kinds = [] }
-row (Processor Arm) = record { word = codes "arm"; kinds = Number ∷ Number ∷ Expression ∷ [] }
-row (Processor Session) = record { word = codes "session"; kinds = Expression ∷ Expression ∷ Expression ∷ [] }
+    record { word = codes "image"; kinds = Name ∷ ImageKind ∷ Number ∷ Number ∷ Expression ∷ []; more = false }
+row (Memory Take) = record { word = codes "take"; kinds = Number ∷ []; more = false }
+row (Memory Give) = record { word = codes "give"; kinds = Number ∷ []; more = false }
+row (Memory Poke) = record { word = codes "poke"; kinds = Number ∷ Expression ∷ []; more = false }
+row (Memory Peek) = record { word = codes "peek"; kinds = Number ∷ Number ∷ []; more = false }
+row (Memory Dma) = record { word = codes "dma"; kinds = Number ∷ Expression ∷ []; more = false }
+row (Processor SetReg) = record { word = codes "reg"; kinds = Register ∷ Number ∷ []; more = false }
+row (Processor Regs) = record { word = codes "regs"; kinds = []; more = false }
+row (Processor Arm) = record { word = codes "arm"; kinds = Number ∷ Number ∷ Expression ∷ []; more = false }
+row (Processor Session) = record { word = codes "session"; kinds = Expression ∷ Expression ∷ Expression ∷ []; more = false }
 row (Processor SessionInto) =
-    record { word = codes "session"; kinds = Expression ∷ Expression ∷ Expression ∷ Name ∷ [] }
-row (Device Seed) = record { word = codes "seed"; kinds = Expression ∷ [] }
-row (Device Unseal) = record { word = codes "unseal"; kinds = Expression ∷ [] }
-row (Device UnsealInto) = record { word = codes "unseal"; kinds = Expression ∷ Name ∷ [] }
-row (Device Counter) = record { word = codes "counter"; kinds = Number ∷ [] }
-row (Device Random) = record { word = codes "random"; kinds = [] }
-row (Device RandomInto) = record { word = codes "random"; kinds = Name ∷ [] }
+    record { word = codes "session"; kinds = Expression ∷ Expression ∷ Expression ∷ Name ∷ []; more = false }
+row (Device Seed) = record { word = codes "seed"; kinds = Expression ∷ []; more = false }
+row (Device Unseal) = record { word = codes "unseal"; kinds = Expression ∷ []; more = false }
+row (Device UnsealInto) = record { word = codes "unseal"; kinds = Expression ∷ Name ∷ []; more = false }
+row (Device Counter) = record { word = codes "counter"; kinds = Number ∷ []; more = false }
+row (Device Random) = record { word = codes "random"; kinds = []; more = false }
+row (Device RandomInto) = record { word = codes "random"; kinds = Name ∷ []; more = false }
+row (Device Quote) = record { word = codes "quote"; kinds = Expression ∷ []; more = false }
+row (Device QuoteInto) = record { word = codes "quote"; kinds = Expression ∷ Name ∷ []; more = false }
+row (Device Check) =
+    record {
+      word = codes "check";
+      kinds = Expression ∷ Expression ∷ Expression ∷ Expression ∷ Number ∷ Expression ∷ [];
+      more = true;
+    }
 
--- what a command asks for with these arguments
-abbrev pub request : (command : Command) → Meanings (row command).kinds → Request
-request (Device Extend) (r, (text, _)) = ExtendBy r text
-request (Device Read) (r, _) = ReadOf r
-request (Values Let) (name, (value, _)) = LetBe name value
-request (Values Show) (value, _) = ShowOf value
-request (Values Image) (name, (job, (entry, (budget, (code, _))))) = ImageOf name job entry budget code
-request (Memory Take) (frames, _) = TakeOf frames
-request (Memory Give) (at, _) = GiveAt at
-request (Memory Poke) (at, (bytes, _)) = PokeAt at bytes
-request (Memory Peek) (at, (count, _)) = PeekAt at count
-request (Memory Dma) (at, (bytes, _)) = DmaAt at bytes
-request (Processor SetReg) (reg, (n, _)) = SetRegOf reg n
-request (Processor Regs) _ = RegsOf
-request (Processor Arm) (turn, (at, (bytes, _))) = ArmAt turn at bytes
-request (Processor Session) (image, (inputs, (nonce, _))) = SessionOf image inputs nonce None
-request (Processor SessionInto) (image, (inputs, (nonce, (var, _)))) =
+-- what a command asks for with these arguments and the texts after them
+abbrev pub request : (command : Command) → Meanings (row command).kinds → List (List Term) → Request
+request (Device Extend) (r, (text, _)) _ = ExtendBy r text
+request (Device Read) (r, _) _ = ReadOf r
+request (Values Let) (name, (value, _)) _ = LetBe name value
+request (Values Show) (value, _) _ = ShowOf value
+request (Values Image) (name, (job, (entry, (budget, (code, _))))) _ = ImageOf name job entry budget code
+request (Memory Take) (frames, _) _ = TakeOf frames
+request (Memory Give) (at, _) _ = GiveAt at
+request (Memory Poke) (at, (bytes, _)) _ = PokeAt at bytes
+request (Memory Peek) (at, (count, _)) _ = PeekAt at count
+request (Memory Dma) (at, (bytes, _)) _ = DmaAt at bytes
+request (Processor SetReg) (reg, (n, _)) _ = SetRegOf reg n
+request (Processor Regs) _ _ = RegsOf
+request (Processor Arm) (turn, (at, (bytes, _))) _ = ArmAt turn at bytes
+request (Processor Session) (image, (inputs, (nonce, _))) _ = SessionOf image inputs nonce None
+request (Processor SessionInto) (image, (inputs, (nonce, (var, _)))) _ =
     SessionOf image inputs nonce (Some var)
-request (Device Seed) (seed, _) = SeedOf seed
-request (Device Unseal) (blob, _) = UnsealOf blob None
-request (Device UnsealInto) (blob, (var, _)) = UnsealOf blob (Some var)
-request (Device Counter) (id, _) = CounterOf id
-request (Device Random) _ = RandomOf None
-request (Device RandomInto) (var, _) = RandomOf (Some var)
+request (Device Seed) (seed, _) _ = SeedOf seed
+request (Device Unseal) (blob, _) _ = UnsealOf blob None
+request (Device UnsealInto) (blob, (var, _)) _ = UnsealOf blob (Some var)
+request (Device Counter) (id, _) _ = CounterOf id
+request (Device Random) _ _ = RandomOf None
+request (Device RandomInto) (var, _) _ = RandomOf (Some var)
+request (Device Quote) (nonce, _) _ = QuoteOf nonce None
+request (Device QuoteInto) (nonce, (var, _)) _ = QuoteOf nonce (Some var)
+request (Device Check) (quote, (image, (inputs, (outputs, (end, (nonce, _)))))) texts =
+    CheckOf quote image inputs outputs end nonce texts
 
 -- ---- lines
 
@@ -162,14 +189,19 @@ abbrev pub is_comment : List (List ℕ) → Bool
 is_comment [] = true
 is_comment (word ∷ others) = slice_index word 0 == 35
 
--- the first word is a command's, and the others spell its arguments
+-- the first word is a command's, the others spell its arguments, and further ones, which there are
+-- only where more may follow, its texts
 pub record SpellsCommand (asked : Request) (line : List (List ℕ)) : Type 0 where
   pub command : Command
   pub arguments : Meanings (row command).kinds
+  pub texts : List (List Term)
   pub others : List (List ℕ)
-  pub asks : asked ≡ request command arguments
-  pub whole : line ≡ (row command).word ∷ others
+  pub further : List (List ℕ)
+  pub asks : asked ≡ request command arguments texts
+  pub whole : line ≡ (row command).word ∷ (others ++ further)
   pub each : SpellEach (row command).kinds arguments others
+  pub each_text : SpellTexts texts further
+  pub none : (row command).more ≡ false → further ≡ []
 
 -- the words spell the request
 abbrev pub SpellsWords : Request → List (List ℕ) → Type 0

@@ -1,12 +1,12 @@
 -- What a line asks for, or the first thing that is wrong with it: the checks in their order.
-use Rattle.std.specs.Prelude.{ℕ, nat_lt, Bool, true, false, List, [], ◌∷◌, ◌==◌, ◌&&◌, length, Option, Some, None, Result, Ok, Err, if◌then◌else◌}
+use Rattle.std.specs.Prelude.{ℕ, nat_lt, nat_le, Bool, true, false, List, [], ◌∷◌, ◌==◌, ◌&&◌, length, drop, Option, Some, None, Result, Ok, Err, if◌then◌else◌}
 use Rattle.std.specs.Option.{ok_or}
 use Rattle.std.specs.List.{list_all, list_any, find}
 use Rattle.std.specs.Str.{bytes_eq}
 use Rattle.flk_base.specs.Checks.{◌>>=◌}
 use Rattle.expr_text.specs.Numbers.{number_of}
-use Rattle.expr_text.specs.Expressions.{is_name}
-use Rattle.expr_text.specs.ExpressionReading.{expression_of}
+use Rattle.expr_text.specs.Expressions.{Term, is_name}
+use Rattle.expr_text.specs.ExpressionReading.{all_of, expression_of}
 use Rattle.script_text.specs.Lines.{words, content}
 use Rattle.script_text.specs.declared.line.TheConstants.{LONGEST_LINE, MOST_LINES}
 use Rattle.script_text.specs.Grammar.{Request, Nothing, Meaning, Meanings, image_kind_word, register_of, row, request, is_printable, is_comment}
@@ -32,13 +32,18 @@ meaning_in ImageKind word =
 meaning_in Register word = ok_or (register_of word) fault.Name
 meaning_in Expression word = ok_or (expression_of word) fault.Expression
 
--- what words stand for, from the left, each by its kind
+-- what the first words stand for, from the left, each by its kind
 abbrev pub each_in : (kinds : List Kind) → List (List ℕ) → Result (Meanings kinds) LineFault
-each_in [] [] = Ok tt
-each_in [] (word ∷ others) = Err fault.Count
+each_in [] others = Ok tt
 each_in (kind ∷ kinds) [] = Err fault.Count
 each_in (kind ∷ kinds) (word ∷ others) =
     meaning_in kind word >>= λ meaning. each_in kinds others >>= λ meanings. Ok (meaning, meanings)
+
+-- what the words after those stand for, each an expression: whichever of them is bad, the fault is
+-- the same
+abbrev pub texts_in : (kinds : List Kind) → List (List ℕ) → Result (List (List Term)) LineFault
+texts_in kinds others =
+    ok_or (all_of expression_of (drop (length kinds) others)) fault.Expression
 
 -- ---- a line
 
@@ -46,9 +51,15 @@ each_in (kind ∷ kinds) (word ∷ others) =
 unfoldable pub is_command : List ℕ → Bool
 is_command word = list_any (λ command. bytes_eq (row command).word word) COMMANDS
 
--- the command has this word, and so many words after it
+-- so many words may stand for so many kinds: as many, or, where more may follow, no fewer
+abbrev pub is_count : (more : Bool) → (kinds count : ℕ) → Bool
+is_count more kinds count = if more then nat_le kinds count else count == kinds
+
+-- the command has this word, and may have so many words after it
 abbrev pub fits : List ℕ → ℕ → Command → Bool
-fits word count command = bytes_eq (row command).word word && count == length (row command).kinds
+fits word count command =
+    bytes_eq (row command).word word
+    && is_count (row command).more (length (row command).kinds) count
 
 -- the command of a word with so many words after it
 unfoldable pub command_of : List ℕ → ℕ → Option Command
@@ -59,11 +70,12 @@ abbrev pub command_for : List ℕ → ℕ → Result Command LineFault
 command_for word count =
     if is_command word then ok_or (command_of word count) fault.Count else Err fault.Command
 
--- the command, then each of its arguments
+-- the command, then each of its arguments, then its texts
 abbrev pub command_in : List ℕ → List (List ℕ) → Result Request LineFault
 command_in word others =
     command_for word (length others) >>= λ command.
-    each_in (row command).kinds others >>= λ arguments. Ok (request command arguments)
+    each_in (row command).kinds others >>= λ arguments.
+    texts_in (row command).kinds others >>= λ texts. Ok (request command arguments texts)
 
 -- the words of a line
 abbrev pub words_in : List (List ℕ) → Result Request LineFault

@@ -1,9 +1,9 @@
 -- What contracts see of an event, and of the error where there is none.
 use Rattle.std.specs.Prelude.{◌≤◌, length, ℕ, List, Option, Some, None, option_map, ◌<◌}
-use Rattle.script_text.specs.Grammar.{Request, Nothing, ExtendBy, ReadOf, LetBe, ShowOf, ImageOf, TakeOf, GiveAt, PokeAt, PeekAt, DmaAt, SetRegOf, RegsOf, ArmAt, SessionOf, SeedOf, UnsealOf, CounterOf, RandomOf}
+use Rattle.script_text.specs.Grammar.{Request, Nothing, ExtendBy, ReadOf, LetBe, ShowOf, ImageOf, TakeOf, GiveAt, PokeAt, PeekAt, DmaAt, SetRegOf, RegsOf, ArmAt, SessionOf, SeedOf, UnsealOf, CounterOf, RandomOf, QuoteOf, CheckOf}
 use Rattle.expr_text.specs.declared.name.TheConstants.{LONGEST_NAME}
 use Rattle.script_text.specs.declared.line.Event.{Event}
-use Rattle.script_text.specs.declared.line.Event.TheVariants.{Blank, Extend, Read, Let, Show, Image, Take, Give, Poke, Peek, Dma, SetReg, Regs, Arm, Session, Seed, Unseal, Counter, Random}
+use Rattle.script_text.specs.declared.line.Event.TheVariants.{Blank, Extend, Read, Let, Show, Image, Take, Give, Poke, Peek, Dma, SetReg, Regs, Arm, Session, Seed, Unseal, Counter, Random, Quote, Check}
 use Rattle.script_text.specs.declared.line.LineError.{LineError}
 use Rattle.script_text.specs.declared.line.LineError.TheVariants.{Fault, NoMemory}
 use Rattle.script_text.specs.declared.line.LineFault.{LineFault}
@@ -30,6 +30,9 @@ request_of (Seed seed) = SeedOf seed
 request_of (Unseal blob var) = UnsealOf blob (option_map (λ name. name.bytes) var)
 request_of (Counter id) = CounterOf id
 request_of (Random var) = RandomOf (option_map (λ name. name.bytes) var)
+request_of (Quote nonce var) = QuoteOf nonce (option_map (λ name. name.bytes) var)
+request_of (Check quote image inputs outputs end nonce texts) =
+    CheckOf quote image inputs outputs end nonce texts
 
 -- the fault that an error stands for: none where memory ran out
 abbrev pub line_fault : LineError → Option LineFault
@@ -48,6 +51,7 @@ HasShortName (ImageOf name job entry budget code) = IsShortName name
 HasShortName (SessionOf image inputs nonce (Some name)) = IsShortName name
 HasShortName (UnsealOf blob (Some name)) = IsShortName name
 HasShortName (RandomOf (Some name)) = IsShortName name
+HasShortName (QuoteOf nonce (Some name)) = IsShortName name
 HasShortName _ = Unit {0}
 
 -- the register that a request sets is one of the eight

@@ -1,9 +1,12 @@
 // The words after a command's, read by their kinds, and the event that they make.
-ghost use Rattle.std.specs.Prelude.{◌≡◌, ◌≢◌, ◌≤◌, [], ◌∷◌, ◌++◌, ◌+◌, true, Some, length, Err};
+ghost use Rattle.std.specs.Prelude.{◌≡◌, ◌≢◌, ◌≤◌, [], ◌∷◌, ◌++◌, ◌+◌, true, Some, drop, length, Err, OnOk, List};
+ghost use Rattle.std.specs.Option.{ok_or};
 ghost use Rattle.flk_base.specs.Checks.{Gives};
+ghost use Rattle.expr_text.specs.Expressions.{Term};
+ghost use Rattle.expr_text.specs.ExpressionReading.{all_of, expression_of};
 ghost use Rattle.script_text.specs.Arguments.{IsOf, ANumber, AName, AnImageKind, ARegister, AnExpression, seen_argument, first_kind, value_in, values_in, request_from};
 ghost use Rattle.script_text.specs.Grammar.{row, register_of};
-ghost use Rattle.script_text.specs.Reading.{is_kept, may_allocate};
+ghost use Rattle.script_text.specs.Reading.{meaning_in, is_kept, may_allocate};
 ghost use Rattle.script_text.specs.Seen.{line_fault, request_of};
 ghost use Rattle.script_text.specs.declared.command.Kind.TheVariants.{Number, Name, ImageKind, Register, Expression};
 
@@ -13,7 +16,7 @@ use crate::command::{
 use crate::line::{Event, LineError, LineFault};
 use crate::words::Words;
 use arrayvec::ArrayVec;
-use expr_text::{Expr, Unread, is_name, number_of};
+use expr_text::{Expr, Exprs, Unread, is_name, number_of};
 use flk_base::Bytes;
 use std::alloc::Global;
 use std::marker::Model;
@@ -132,16 +135,17 @@ impl Arguments {
     }
 }
 
-/// The arguments of these kinds: each from the left, of as many words.
+/// The arguments of these kinds: each from the left, of the first words.
 pub(crate) fn read_arguments(
     alloc: Global,
     kinds: &[Kind],
-    mut words: Words<'_>,
+    words: &mut Words<'_>,
 ) -> Result<Arguments, LineError>
     requires few { length kinds.now ≤ MOST_ARGUMENTS }
-    requires counted { length words ≡ length kinds.now }
+    requires counted { length kinds.now ≤ length words.old }
     ensures exact { Gives line_fault
-        (λ arguments. arguments) result (values_in kinds.now words.entry) }
+        (λ arguments. arguments) result (values_in kinds.now words.old) }
+    ensures rest { OnOk result (words.new ≡ drop (length kinds.now) words.old) }
     ensures kept { result ≡ Err LineError.NoMemory → may_allocate kinds.now ≡ true }
 {
     let mut arguments = Arguments::new();
@@ -152,6 +156,32 @@ pub(crate) fn read_arguments(
         arguments.push(argument_in(alloc, *kind, word)?);
     }
     Ok(arguments)
+}
+
+/// The expressions that all of these words spell.
+pub(crate) fn read_texts(alloc: Global, mut words: Words<'_>) -> Result<Exprs, LineError>
+    ensures exact { Gives line_fault (λ texts. texts) result
+        (ok_or (all_of expression_of words.entry) LineFault.Expression) }
+    ensures kept { result ≡ Err LineError.NoMemory → words.entry ≢ [] }
+{
+    let mut texts = Exprs::new(alloc);
+    while let Some(word) = words.next() {
+        let text = text_in(alloc, word)?;
+        if texts.push(text).is_err() {
+            return Err(LineError::NoMemory);
+        }
+    }
+    Ok(texts)
+}
+
+fn text_in(alloc: Global, word: &[u8]) -> Result<Expr, LineError>
+    ensures { Gives line_fault (λ terms. terms) result (meaning_in Expression word.now) }
+{
+    match expr_text::expression_in(alloc, word) {
+        Ok(text) => Ok(text),
+        Err(Unread::Spelling) => Err(LineError::Fault(LineFault::Expression)),
+        Err(Unread::NoMemory) => Err(LineError::NoMemory),
+    }
 }
 
 fn argument_in(alloc: Global, kind: Kind, word: &[u8]) -> Result<Argument, LineError>
@@ -226,20 +256,17 @@ fn register_in(word: &[u8]) -> Result<Argument, LineError>
 fn expression_in(alloc: Global, word: &[u8]) -> Result<Argument, LineError>
     ensures { Gives line_fault seen_argument result (value_in Expression word.now) }
 {
-    match expr_text::expression_in(alloc, word) {
-        Ok(expression) => Ok(Argument::Expression(expression)),
-        Err(Unread::Spelling) => Err(LineError::Fault(LineFault::Expression)),
-        Err(Unread::NoMemory) => Err(LineError::NoMemory),
-    }
+    let text = text_in(alloc, word)?;
+    Ok(Argument::Expression(text))
 }
 
-/// What a line asks for that has this command and these arguments.
-pub(crate) fn event_of(command: Command, arguments: Arguments) -> Event
+/// What a line asks for that has this command, these arguments and these texts.
+pub(crate) fn event_of(command: Command, arguments: Arguments, texts: Exprs) -> Event
     requires { IsOf (row command).kinds arguments }
-    ensures { request_from command arguments ≡ Some (request_of result) }
+    ensures { request_from command arguments texts ≡ Some (request_of result) }
 {
     match command {
-        Command::Device(command) => device_event(command, arguments),
+        Command::Device(command) => device_event(command, arguments, texts),
         Command::Values(command) => values_event(command, arguments),
         Command::Memory(command) => memory_event(command, arguments),
         Command::Processor(command) => processor_event(command, arguments),
@@ -247,9 +274,9 @@ pub(crate) fn event_of(command: Command, arguments: Arguments) -> Event
 }
 
 // The same of a command for the sealing device.
-fn device_event(command: DeviceCommand, mut arguments: Arguments) -> Event
+fn device_event(command: DeviceCommand, mut arguments: Arguments, texts: Exprs) -> Event
     requires { IsOf (row (Command.Device command)).kinds arguments }
-    ensures { request_from (Command.Device command) arguments ≡ Some (request_of result) }
+    ensures { request_from (Command.Device command) arguments texts ≡ Some (request_of result) }
 {
     match command {
         DeviceCommand::Extend => Event::Extend {
@@ -277,13 +304,40 @@ fn device_event(command: DeviceCommand, mut arguments: Arguments) -> Event
         DeviceCommand::RandomInto => Event::Random {
             var: Some(arguments.name()),
         },
+        DeviceCommand::Quote => Event::Quote {
+            nonce: arguments.expression(),
+            var: None,
+        },
+        DeviceCommand::QuoteInto => Event::Quote {
+            nonce: arguments.expression(),
+            var: Some(arguments.name()),
+        },
+        DeviceCommand::Check => check_event(arguments, texts),
+    }
+}
+
+// The same of `check`.
+fn check_event(mut arguments: Arguments, texts: Exprs) -> Event
+    requires { IsOf (row (Command.Device DeviceCommand.Check)).kinds arguments }
+    ensures { request_from (Command.Device DeviceCommand.Check) arguments texts
+        ≡ Some (request_of result) }
+{
+    Event::Check {
+        quote: arguments.expression(),
+        image: arguments.expression(),
+        inputs: arguments.expression(),
+        outputs: arguments.expression(),
+        end: arguments.number(),
+        nonce: arguments.expression(),
+        texts,
     }
 }
 
 // The same of a command for names and values.
 fn values_event(command: ValuesCommand, mut arguments: Arguments) -> Event
     requires { IsOf (row (Command.Values command)).kinds arguments }
-    ensures { request_from (Command.Values command) arguments ≡ Some (request_of result) }
+    ensures { (texts : List (List Term)) → request_from (Command.Values command) arguments texts
+        ≡ Some (request_of result) }
 {
     match command {
         ValuesCommand::Let => Event::Let {
@@ -306,7 +360,8 @@ fn values_event(command: ValuesCommand, mut arguments: Arguments) -> Event
 // The same of a command for memory.
 fn memory_event(command: MemoryCommand, mut arguments: Arguments) -> Event
     requires { IsOf (row (Command.Memory command)).kinds arguments }
-    ensures { request_from (Command.Memory command) arguments ≡ Some (request_of result) }
+    ensures { (texts : List (List Term)) → request_from (Command.Memory command) arguments texts
+        ≡ Some (request_of result) }
 {
     match command {
         MemoryCommand::Take => Event::Take {
@@ -333,7 +388,8 @@ fn memory_event(command: MemoryCommand, mut arguments: Arguments) -> Event
 // The same of a command for the processor.
 fn processor_event(command: ProcessorCommand, mut arguments: Arguments) -> Event
     requires { IsOf (row (Command.Processor command)).kinds arguments }
-    ensures { request_from (Command.Processor command) arguments ≡ Some (request_of result) }
+    ensures { (texts : List (List Term)) → request_from (Command.Processor command) arguments texts
+        ≡ Some (request_of result) }
 {
     match command {
         ProcessorCommand::SetReg => Event::SetReg {

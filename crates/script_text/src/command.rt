@@ -46,6 +46,9 @@ pub(crate) enum DeviceCommand {
     Counter,
     Random,
     RandomInto,
+    Quote,
+    QuoteInto,
+    Check,
 }
 
 /// The commands for names and values.
@@ -77,7 +80,7 @@ pub(crate) enum ProcessorCommand {
 }
 
 /// All of them.
-pub(crate) const COMMANDS: [Command; 21] = [
+pub(crate) const COMMANDS: [Command; 24] = [
     Command::Device(DeviceCommand::Extend),
     Command::Device(DeviceCommand::Read),
     Command::Device(DeviceCommand::Seed),
@@ -86,6 +89,9 @@ pub(crate) const COMMANDS: [Command; 21] = [
     Command::Device(DeviceCommand::Counter),
     Command::Device(DeviceCommand::Random),
     Command::Device(DeviceCommand::RandomInto),
+    Command::Device(DeviceCommand::Quote),
+    Command::Device(DeviceCommand::QuoteInto),
+    Command::Device(DeviceCommand::Check),
     Command::Values(ValuesCommand::Let),
     Command::Values(ValuesCommand::Show),
     Command::Values(ValuesCommand::Image),
@@ -101,21 +107,34 @@ pub(crate) const COMMANDS: [Command; 21] = [
     Command::Processor(ProcessorCommand::SessionInto),
 ];
 
-/// The most arguments that a command has.
-pub(crate) const MOST_ARGUMENTS: usize = 5;
+/// The most arguments that a command has, without the texts that may follow them.
+pub(crate) const MOST_ARGUMENTS: usize = 6;
 
-/// A row of the table: a command's word, and the kinds of its arguments.
+/// A row of the table: a command's word, the kinds of its arguments, and whether any number of
+/// expressions may follow them.
 #[derive(Clone, Copy)]
 pub(crate) struct Row {
     pub(crate) word: &'static [u8],
     pub(crate) kinds: &'static [Kind],
+    pub(crate) more: bool,
 }
+
+// The kinds of the arguments of `check`.
+const CHECK_KINDS: &[Kind] = &[
+    Kind::Expression,
+    Kind::Expression,
+    Kind::Expression,
+    Kind::Expression,
+    Kind::Number,
+    Kind::Expression,
+];
 
 impl DeviceCommand {
     // Its row.
     fn row(self) -> Row
         ensures word { result.word.now ≡ (row (Command.Device self)).word }
         ensures kinds { result.kinds.now ≡ (row (Command.Device self)).kinds }
+        ensures more { result.more ≡ (row (Command.Device self)).more }
         ensures few { length result.kinds.now ≤ MOST_ARGUMENTS }
     {
         let (word, kinds): (&'static [u8], &'static [Kind]) = match self {
@@ -127,8 +146,12 @@ impl DeviceCommand {
             DeviceCommand::Counter => (b"counter", &[Kind::Number]),
             DeviceCommand::Random => (b"random", &[]),
             DeviceCommand::RandomInto => (b"random", &[Kind::Name]),
+            DeviceCommand::Quote => (b"quote", &[Kind::Expression]),
+            DeviceCommand::QuoteInto => (b"quote", &[Kind::Expression, Kind::Name]),
+            DeviceCommand::Check => (b"check", CHECK_KINDS),
         };
-        Row { word, kinds }
+        let more = matches!(self, DeviceCommand::Check);
+        Row { word, kinds, more }
     }
 }
 
@@ -137,6 +160,7 @@ impl ValuesCommand {
     fn row(self) -> Row
         ensures word { result.word.now ≡ (row (Command.Values self)).word }
         ensures kinds { result.kinds.now ≡ (row (Command.Values self)).kinds }
+        ensures more { result.more ≡ (row (Command.Values self)).more }
         ensures few { length result.kinds.now ≤ MOST_ARGUMENTS }
     {
         let (word, kinds): (&'static [u8], &'static [Kind]) = match self {
@@ -153,7 +177,11 @@ impl ValuesCommand {
                 ],
             ),
         };
-        Row { word, kinds }
+        Row {
+            word,
+            kinds,
+            more: false,
+        }
     }
 }
 
@@ -162,6 +190,7 @@ impl MemoryCommand {
     fn row(self) -> Row
         ensures word { result.word.now ≡ (row (Command.Memory self)).word }
         ensures kinds { result.kinds.now ≡ (row (Command.Memory self)).kinds }
+        ensures more { result.more ≡ (row (Command.Memory self)).more }
         ensures few { length result.kinds.now ≤ MOST_ARGUMENTS }
     {
         let (word, kinds): (&'static [u8], &'static [Kind]) = match self {
@@ -171,7 +200,11 @@ impl MemoryCommand {
             MemoryCommand::Peek => (b"peek", &[Kind::Number, Kind::Number]),
             MemoryCommand::Dma => (b"dma", &[Kind::Number, Kind::Expression]),
         };
-        Row { word, kinds }
+        Row {
+            word,
+            kinds,
+            more: false,
+        }
     }
 }
 
@@ -180,6 +213,7 @@ impl ProcessorCommand {
     fn row(self) -> Row
         ensures word { result.word.now ≡ (row (Command.Processor self)).word }
         ensures kinds { result.kinds.now ≡ (row (Command.Processor self)).kinds }
+        ensures more { result.more ≡ (row (Command.Processor self)).more }
         ensures few { length result.kinds.now ≤ MOST_ARGUMENTS }
     {
         let (word, kinds): (&'static [u8], &'static [Kind]) = match self {
@@ -200,7 +234,11 @@ impl ProcessorCommand {
                 ],
             ),
         };
-        Row { word, kinds }
+        Row {
+            word,
+            kinds,
+            more: false,
+        }
     }
 }
 
@@ -209,6 +247,7 @@ impl Command {
     pub(crate) fn row(self) -> Row
         ensures word { result.word.now ≡ (row self).word }
         ensures kinds { result.kinds.now ≡ (row self).kinds }
+        ensures more { result.more ≡ (row self).more }
         ensures few { length result.kinds.now ≤ MOST_ARGUMENTS }
     {
         match self {
@@ -219,12 +258,12 @@ impl Command {
         }
     }
 
-    // Whether it has this word, and as many words after it as these.
+    // Whether it has this word, and may have as many words after it as these.
     fn fits(self, word: &[u8], others: &Words<'_>) -> bool
         ensures { result ≡ fits word.now (length others.now) self }
     {
         let row = self.row();
-        row.word == word && others.has(row.kinds.len())
+        row.word == word && others.has(row.kinds.len(), row.more)
     }
 }
 

@@ -8,10 +8,10 @@ ghost use Rattle.script_text.specs.Reading.{IsEarly, IsLate, may_allocate, words
 ghost use Rattle.script_text.specs.Seen.{line_fault, request_of, HasShortName, HasRegister};
 ghost use Rattle.script_text.specs.declared.line.LineError.TheVariants.{Fault};
 
-use crate::argument::{event_of, read_arguments};
+use crate::argument::{event_of, read_arguments, read_texts};
 use crate::command::command_for;
 use crate::words::{Words, content};
-use expr_text::Expr;
+use expr_text::{Expr, Exprs};
 use flk_base::Bytes;
 use std::alloc::Global;
 
@@ -116,6 +116,25 @@ pub enum Event {
     Random {
         var: Option<Bytes>,
     },
+    /// To have the device quote register 17 for a nonce, and to bind a name, if there is one, to the
+    /// quote.
+    Quote {
+        nonce: Expr,
+        var: Option<Bytes>,
+    },
+    /// To check whether a quote is that of a session of an image on inputs.
+    Check {
+        quote: Expr,
+        image: Expr,
+        inputs: Expr,
+        /// What the session put out.
+        outputs: Expr,
+        /// The byte that says how the session ended.
+        end: u32,
+        nonce: Expr,
+        /// What the session extended register 17 by, from the first on.
+        texts: Exprs,
+    },
 }
 
 /// The first thing that is wrong with a line, in the order of the checks. Of the words of one line,
@@ -129,7 +148,7 @@ pub enum LineFault {
     /// 3: the first word is no command.
     Command,
     /// 4: the number of words is not that of the command, or none of its two where one word may be
-    /// missing.
+    /// missing, or below it where any number of words may follow.
     Count,
     /// 5: a word that has to be a Number is none.
     Number,
@@ -247,7 +266,7 @@ fn read_words(alloc: Global, mut words: Words<'_>) -> Result<Event, LineError>
     }
 }
 
-fn read_command(alloc: Global, word: &[u8], words: Words<'_>) -> Result<Event, LineError>
+fn read_command(alloc: Global, word: &[u8], mut words: Words<'_>) -> Result<Event, LineError>
     ensures exact { Gives line_fault request_of result (command_in word.now words.entry) }
     ensures late { result ≡ Err LineError.NoMemory → IsLate (command_in word.now words.entry) }
     ensures asked { result ≡ Err LineError.NoMemory
@@ -257,6 +276,7 @@ fn read_command(alloc: Global, word: &[u8], words: Words<'_>) -> Result<Event, L
         Ok(command) => command,
         Err(fault) => return Err(LineError::Fault(fault)),
     };
-    let arguments = read_arguments(alloc, command.row().kinds, words)?;
-    Ok(event_of(command, arguments))
+    let arguments = read_arguments(alloc, command.row().kinds, &mut words)?;
+    let texts = read_texts(alloc, words)?;
+    Ok(event_of(command, arguments, texts))
 }

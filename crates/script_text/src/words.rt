@@ -1,7 +1,8 @@
 // The words of a line.
-ghost use Rattle.std.specs.Prelude.{◌≡◌, ◌≤◌, ◌==◌, [], ◌∷◌, length, not, MatchOption};
+ghost use Rattle.std.specs.Prelude.{◌≡◌, ◌≤◌, [], ◌∷◌, length, not, MatchOption};
 ghost use Rattle.std.specs.List.{prefix_len};
 ghost use Rattle.script_text.specs.Lines.{is_space_or_tab, words, content};
+ghost use Rattle.script_text.specs.Reading.{is_count};
 ghost use Rattle.script_text.specs.Words.{IsFirstWord};
 
 use std::marker::Model;
@@ -69,9 +70,9 @@ impl<'a> Words<'a> {
         if word.is_empty() { None } else { Some(word) }
     }
 
-    /// Whether so many are left.
-    pub(crate) fn has(&self, count: usize) -> bool
-        ensures { result ≡ (length self.now == count) }
+    /// Whether so many are left, or, where there may be more, no fewer.
+    pub(crate) fn has(&self, count: usize, more: bool) -> bool
+        ensures { result ≡ is_count more count (length self.now) }
     {
         let mut left = Words { rest: self.rest };
         for _i in 0..count {
@@ -79,7 +80,7 @@ impl<'a> Words<'a> {
                 return false;
             }
         }
-        left.next().is_none()
+        more || left.next().is_none()
     }
 }
 

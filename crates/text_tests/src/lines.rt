@@ -1,6 +1,6 @@
 // Lines and what they ask for: each fault once, and two faults in one line, of which the first is
 // reported.
-use expr_text::{Expr, ExprError, ExprFault, Vars};
+use expr_text::{Expr, ExprError, ExprFault, Exprs, Vars};
 use flk_base::Bytes;
 use script_text::{Event, LineError, LineFault, read_line};
 use std::alloc::Global;
@@ -91,6 +91,8 @@ fn of_event(event: &Event) -> Asked<'_> {
         Event::Unseal { blob, var } => of_binding("unseal", var, Some(blob)),
         Event::Counter { id } => of_numbers("counter", *id, 0),
         Event::Random { var } => of_binding("random", var, None),
+        Event::Quote { nonce, var } => of_binding("quote", var, Some(nonce)),
+        Event::Check { quote, end, .. } => of_value("check", *end, quote),
     }
 }
 
@@ -203,6 +205,23 @@ const GOOD_OF_DEVICES: &[Row] = &[
         "abcdefghijklmnop",
         &[],
     ),
+    ("quote x:0102", "quote", [0, 0, 0], "", &[1, 2]),
+    ("\tquote  rep:07*2 q\r", "quote", [0, 0, 0], "q", &[7, 7]),
+    ("check x:01 x: x: x: 0 x:", "check", [0, 0, 0], "", &[1]),
+    (
+        "\tcheck x:01 x: x: x: 0x100  x: x:02\r",
+        "check",
+        [256, 0, 0],
+        "",
+        &[1],
+    ),
+    (
+        "check x: x:01 x: x: 4294967295 x: x:02 x:03",
+        "check",
+        [4_294_967_295, 0, 0],
+        "",
+        &[],
+    ),
 ];
 
 #[test]
@@ -234,6 +253,91 @@ fn sessions(rt: HostRuntime) {
     }
 }
 
+// The expressions are as many as these bytes, and each is worth them, with no name bound.
+fn are_worth(alloc: Global, texts: &Exprs, wanted: &[&[u8]]) -> bool {
+    texts.len() == wanted.len()
+        && wanted
+            .iter()
+            .enumerate()
+            .all(|(i, bytes)| is_worth(alloc, texts.get(i), bytes))
+}
+
+// The line asks to check a quote of an image 2, of inputs 3, outputs 4, a nonce 6 and these texts.
+fn is_check(alloc: Global, line: &[u8], wanted: &[&[u8]]) -> bool {
+    match read_line(alloc, line) {
+        Ok(
+            Event::Check {
+                image,
+                inputs,
+                outputs,
+                nonce,
+                texts,
+                ..
+            },
+        ) => {
+            is_worth(alloc, Some(&image), &[2])
+                && is_worth(alloc, Some(&inputs), &[3])
+                && is_worth(alloc, Some(&outputs), &[4])
+                && is_worth(alloc, Some(&nonce), &[6])
+                && are_worth(alloc, &texts, wanted)
+        }
+        _ => false,
+    }
+}
+
+// Lines of one quote, and the texts that they name.
+const CHECKS: &[(&str, &[&[u8]])] = &[
+    ("check x:01 x:02 x:03 x:04 5 x:06", &[]),
+    ("check x:01 x:02 x:03 x:04 5 x:06 \t\r", &[]),
+    ("check x:01 x:02 x:03 x:04 5 x:06 x:", &[&[]]),
+    ("check x:01 x:02 x:03 x:04 5 x:06 x:0708", &[&[7, 8]]),
+    (
+        "check x:01 x:02 x:03 x:04 5 x:06 x:07 x: rep:08*2 x:07",
+        &[&[7], &[], &[8, 8], &[7]],
+    ),
+    (
+        "check x:01 x:02 x:03 x:04 5 x:06 x:06 x:05 x:04 x:03 x:02 x:01 x:00",
+        &[&[6], &[5], &[4], &[3], &[2], &[1], &[0]],
+    ),
+];
+
+#[test]
+fn checks(rt: HostRuntime) {
+    for (i, (line, texts)) in CHECKS.iter().enumerate() {
+        assert!(rt; is_check(rt.alloc(), line.as_bytes(), texts), "row {i}");
+    }
+}
+
+// A line that checks a quote with so many texts `x:`.
+fn check_of(alloc: Global, count: usize) -> Result<Vec<u8>, Fail> {
+    let mut line = Vec::new(alloc);
+    line.extend_from_slice(b"check x: x: x: x: 0 x:")?;
+    for _i in 0..count {
+        line.extend_from_slice(b" x:")?;
+    }
+    Ok(line)
+}
+
+// The line is read as one that checks a quote with so many texts.
+fn has_texts(alloc: Global, line: &[u8], count: usize) -> bool {
+    match read_line(alloc, line) {
+        Ok(Event::Check { texts, .. }) => texts.len() == count,
+        _ => false,
+    }
+}
+
+#[test]
+fn most_texts(rt: HostRuntime) -> Result<(), Fail> {
+    let mut line = check_of(rt.alloc(), 5_454)?;
+    assert!(rt; line.len() == 16_384);
+    assert!(rt; has_texts(rt.alloc(), &line, 5_454));
+    line[16_383] = b';';
+    assert!(rt; is_bad(rt.alloc(), &line, LineFault::Expression));
+    line.push(b' ')?;
+    assert!(rt; is_bad(rt.alloc(), &line, LineFault::LongLine));
+    Ok(())
+}
+
 // The expression of the line has this fault where no name is bound.
 fn is_worthless(alloc: Global, line: &str, fault: ExprFault) -> bool {
     let Ok(event) = read_line(alloc, line.as_bytes()) else {
@@ -256,6 +360,8 @@ const UNBOUND: &[&str] = &[
     "image m pal 32 1 m",
     "arm 1 2 v",
     "session m x: x: m",
+    "quote n",
+    "check q x: x: x: 0 x:",
 ];
 
 #[test]
@@ -335,6 +441,26 @@ const BAD: &[(&str, LineFault)] = &[
     ("random A", LineFault::Name),
     ("random x:", LineFault::Name),
     ("random abcdefghijklmnopq", LineFault::Name),
+    ("quotes x:", LineFault::Command),
+    ("quote", LineFault::Count),
+    ("quote 01 9 9", LineFault::Count),
+    ("quote 01 9", LineFault::Expression),
+    ("quote x: 9", LineFault::Name),
+    ("quote x: Q", LineFault::Name),
+    ("check x: x: x: x: 0 x: \x01", LineFault::Byte),
+    ("checks x: x: x: x: 0 x:", LineFault::Command),
+    ("check", LineFault::Count),
+    ("check 01 02 03 04 y", LineFault::Count),
+    ("check x: x: x: x: 0", LineFault::Count),
+    ("check 01 x: x: x: y 02", LineFault::Expression),
+    ("check x: x: x: 01 y 02", LineFault::Expression),
+    ("check x: x: x: x: y 02 03", LineFault::Number),
+    ("check x: x: x: x: 4294967296 x:", LineFault::Number),
+    ("check x: x: x: x: x: 0 x:", LineFault::Number),
+    ("check x: x: x: x: 0 02", LineFault::Expression),
+    ("check x: x: x: x: 0 x: 03", LineFault::Expression),
+    ("check x: x: x: x: 0 x: x: 9 x:", LineFault::Expression),
+    ("check x: x: x: x: 0 x: x: x:0", LineFault::Expression),
 ];
 
 #[test]

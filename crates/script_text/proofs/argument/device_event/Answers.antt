@@ -23,5 +23,15 @@ returns-in-Counter c = rw (c.in-Counter.is, c.number-in-Counter.ensures) refl
 pub returns-in-Random : goal.returns-in-Random
 returns-in-Random c = rw c.in-Random.is refl
 
-pub returns : goal.returns
-returns c = rw (c.in-RandomInto.is, c.name-in-RandomInto.ensures) refl
+pub returns-in-RandomInto : goal.returns-in-RandomInto
+returns-in-RandomInto c = rw (c.in-RandomInto.is, c.name-in-RandomInto.ensures) refl
+
+pub returns-in-Quote : goal.returns-in-Quote
+returns-in-Quote c = rw (c.in-Quote.is, c.expression-in-Quote.ensures) refl
+
+pub returns-in-QuoteInto : goal.returns-in-QuoteInto
+returns-in-QuoteInto c =
+    rw (c.in-QuoteInto.is, c.expression-in-QuoteInto.ensures, c.name-in-QuoteInto.ensures) refl
+
+pub returns-in-Check : goal.returns-in-Check
+returns-in-Check c = rw c.in-Check.is c.check_event.ensures
