@@ -1,6 +1,6 @@
 -- By lists and by digests events and scripts do the same, and a script is one plan.
 use Rattle.std.proofs.Common.{◌≡◌, ◌≢◌, inl, inr, ℕ, ◌+◌, Bool, true, false, List, [], ◌∷◌, ◌++◌, refl, ap, sym, subst, ◌∙◌}
-use Rattle.std.specs.Prelude.{nat_le, nat_lt, Option, Some, None, Result, Ok, Err}
+use Rattle.std.specs.Prelude.{◌==◌, length, nat_le, nat_lt, Option, Some, None, Result, Ok, Err}
 use Rattle.std.proofs.lemmas.Bool.{cases_Bool}
 use Rattle.std.specs.Io.KnownBytes.{Appends}
 use Rattle.flk_base.specs.Known.{AppendsPrefix}
@@ -26,14 +26,15 @@ use Rattle.expr_text.specs.declared.value.TheConstants.{LONGEST_VALUE}
 use Rattle.slb_image.specs.Image.{pack}
 use Rattle.slb_image.specs.Faults.{build_fault}
 use Rattle.slb_image.specs.declared.fault.ImageFault.{ImageFault}
-use Rattle.script_text.specs.Grammar.{Request, Nothing, ExtendBy, ReadOf, LetBe, ShowOf, ImageOf, TakeOf, GiveAt, PokeAt, PeekAt, DmaAt, SetRegOf, RegsOf, ArmAt, SessionOf, SeedOf, UnsealOf, CounterOf, RandomOf}
+use Rattle.script_text.specs.Grammar.{Request, Nothing, ExtendBy, ReadOf, LetBe, ShowOf, ImageOf, TakeOf, GiveAt, PokeAt, PeekAt, DmaAt, SetRegOf, RegsOf, ArmAt, SessionOf, SeedOf, UnsealOf, CounterOf, RandomOf, QuoteOf, CheckOf}
 use Rattle.script_text.specs.Lines.{script_lines}
+use Rattle.flk_run.specs.declared.tasks.TheConstants.{NONCE_LEN}
 use Rattle.flk_run.specs.declared.run.ScriptFault.{ScriptFault}
 use Rattle.flk_run.specs.Platform.{Around, Platform, ListPlatform, DigestPlatform, platform_digested}
 use Rattle.flk_run.specs.Answers.{Answer, line_of}
 use Rattle.flk_run.specs.Events.{Outcome, Outcomes, answered_first, plan_of, settlement, event, step, after, transcript_line, transcript, after_all, script, lines_of, after_outcomes}
 use Rattle.flk_run.specs.Agreement.{step_digested, NothingCompared, NothingComparedBy, FairBy, may_compare, AgreesByLists, RanTwice}
-use Rattle.flk_run.specs.Tasks.{Task, Rest, Refuse, Extend, Read, Bind, Show, BindImage, Take, Give, Poke, Peek, Dma, SetRegister, ShowRegisters, Arm, RunSession, Seed, Unseal, ReadCounter, Draw, task_or_fault, image_or_fault, peek_or_long, counter_or_none, last_counter, task_of}
+use Rattle.flk_run.specs.Tasks.{Task, Rest, Refuse, Extend, Read, Bind, Show, BindImage, Take, Give, Poke, Peek, Dma, SetRegister, ShowRegisters, Arm, RunSession, Seed, Unseal, ReadCounter, Draw, Quote, Check, task_or_fault, image_or_fault, peek_or_long, quote_or_nonce, counter_or_none, last_counter, task_of}
 use Rattle.flk_run.specs.Script.{good_requests}
 use Rattle.flk_run.specs.Runs.{Written, LineCut, AllDone, ReadShort, CutShort, Paused, Ran, requests_done}
 
@@ -43,6 +44,7 @@ use Rattle.flk_run.specs.Runs.{Written, LineCut, AllDone, ReadShort, CutShort, P
 abbrev task_may : Task → Bool
 task_may (RunSession image inputs nonce var) = true
 task_may (Unseal blob var) = true
+task_may (Check session quote) = true
 task_may other = false
 
 task_compares : (task : Task) (w : Around) → task_may task ≡ false → ComparesNothing (plan_of task w)
@@ -66,6 +68,8 @@ task_compares (Seed seed) w none = (refl, λ reply. tt)
 task_compares (Unseal blob var) w none = absurd (cc)
 task_compares (ReadCounter id) w none = (refl, λ reply. tt)
 task_compares (Draw var) w none = (refl, λ reply. tt)
+task_compares (Quote nonce var) w none = (refl, λ reply. tt)
+task_compares (Check session quote) w none = absurd (cc)
 
 value_may : (value : Result (List ℕ) ExprFault) (task : List ℕ → Task) → ((bytes : List ℕ) → task_may (task bytes) ≡ false)
     → task_may (task_or_fault value task) ≡ false
@@ -86,6 +90,12 @@ counter_may : (id : ℕ) → task_may (counter_or_none id) ≡ false
 counter_may id = elim (cases_Bool (nat_le id last_counter)) [
   | inl low ↦ rw low refl
   | inr high ↦ rw high refl
+]
+
+quote_may : (nonce : List ℕ) (var : Option (List ℕ)) → task_may (quote_or_nonce nonce var) ≡ false
+quote_may nonce var = elim (cases_Bool (length nonce == NONCE_LEN)) [
+  | inl right ↦ rw right refl
+  | inr wrong ↦ rw wrong refl
 ]
 
 request_may : (request : Request) (table : Table) → may_compare request ≡ false → task_may (task_of request table) ≡ false
@@ -110,6 +120,9 @@ request_may (SeedOf seed) table none = value_may (value_of seed table) (λ bytes
 request_may (UnsealOf blob var) table none = absurd (cc)
 request_may (CounterOf id) table none = counter_may id
 request_may (RandomOf var) table none = refl
+request_may (QuoteOf nonce var) table none =
+    value_may (value_of nonce table) (λ bytes. quote_or_nonce bytes var) (λ bytes. quote_may bytes var)
+request_may (CheckOf quote image inputs outputs end nonce texts) table none = absurd (cc)
 
 settlement_compares : (w : Around) (end : Limit × Option (Around × Answer)) → ComparesNothing (settlement w end)
 settlement_compares w (left, Some end) = tt

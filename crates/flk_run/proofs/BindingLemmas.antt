@@ -7,10 +7,11 @@ use Rattle.seal_device.specs.Commands as command
 use Rattle.seal_device.specs.Commands.{Command, Reply, costs, act}
 use Rattle.seal_device.specs.Digests.{DigestDevice, digests, on_device}
 use Rattle.seal_device.specs.Refusals.Unseal as unseals
+use Rattle.seal_device.specs.Refusals.Quote as quotes
 use Rattle.seal_device.specs.Refusals.Random as randoms
 use Rattle.flk_run.specs.Answers.{Answer}
 use Rattle.flk_run.specs.Platform.{Around, DigestPlatform}
-use Rattle.flk_run.specs.Events.{after_unseal, after_draw, plan_of, task_step}
+use Rattle.flk_run.specs.Events.{after_unseal, after_draw, after_quote, plan_of, task_step}
 use Rattle.flk_run.specs.Sessions.{shown_in, table_with}
 use Rattle.flk_run.specs.Tasks as task
 use Rattle.flk_run.specs.Tasks.{Task}
@@ -77,3 +78,14 @@ draw_binds p =
         → after_draw (Some name) reply p.around ≡ bound_around name (after_draw None reply p.around)
     each name (Ok word) = refl
     each name (Err refusal) = refl
+
+-- the name of a quote
+pub quote_binds : (p : DigestPlatform) (nonce : List ℕ) (var : Option (List ℕ))
+    → task_step digests (task.Quote nonce var) p ≡ shown_too var (task_step digests (task.Quote nonce None) p)
+quote_binds p nonce =
+    command_binds p (command.Quote nonce) (λ var reply. after_quote var reply p.around) (task.Quote nonce) (λ var. refl) each
+  where
+    each : (name : List ℕ) (reply : Result (List ℕ) quotes.Refusal)
+        → after_quote (Some name) reply p.around ≡ bound_around name (after_quote None reply p.around)
+    each name (Ok bytes) = refl
+    each name (Err quotes.Unprovisioned) = refl

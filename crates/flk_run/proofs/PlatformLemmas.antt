@@ -7,7 +7,7 @@ use Rattle.expr_text.specs.declared.value.TheConstants.{LONGEST_VALUE}
 use Rattle.expr_text.specs.declared.value.ExprFault.{ExprFault}
 use Rattle.expr_text.specs.Variables.{Table}
 use Rattle.expr_text.specs.Values.{value_of}
-use Rattle.script_text.specs.Grammar.{Request, SessionOf}
+use Rattle.script_text.specs.Grammar.{Request, SessionOf, QuoteOf, CheckOf}
 use Rattle.flk_run.specs.Tasks.{Task, Rest, Refuse, Read, Give, SetRegister, ShowRegisters, ReadCounter, Draw, MayAllocate, MayAllocateFor, task_or_fault, image_or_fault, peek_or_long, task_of}
 use Rattle.flk_run.specs.Seen.{binds, takes}
 
@@ -76,12 +76,17 @@ allocates_ticket (Draw None) h = absurd (cc)
 allocates_ticket (Draw (Some name)) h = absurd (cc)
 allocates_ticket _ h = tt
 
+-- where the task for a value may, there is one
+has_value : (value : Result (List ℕ) ExprFault) (task : List ℕ → Task)
+    → MayAllocate (task_or_fault value task) → IsOk value
+has_value (Ok bytes) task may = refl
+has_value (Err fault) task may = absurd may
+
 -- a request may allocate where its task does
 pub may_for : (request : Request) (table : Table) → MayAllocate (task_of request table)
     → MayAllocateFor request table
-may_for (SessionOf image inputs nonce var) table may = has_value (value_of image table) _ may where
-  has_value : (value : Result (List ℕ) ExprFault) (task : List ℕ → Task)
-      → MayAllocate (task_or_fault value task) → IsOk value
-  has_value (Ok bytes) task may = refl
-  has_value (Err fault) task may = absurd may
+may_for (SessionOf image inputs nonce var) table may = has_value (value_of image table) _ may
+may_for (QuoteOf nonce var) table may = has_value (value_of nonce table) _ may
+may_for (CheckOf quote image inputs outputs end nonce texts) table may =
+    has_value (value_of quote table) _ may
 may_for _ table may = may

@@ -6,7 +6,7 @@ use Rattle.seal_device.specs.Digests.{DigestDevice, digests as by_digests}
 use Rattle.seal_device.specs.Lists.{lists as by_lists}
 use Rattle.seal_device.specs.Ledger.{Ledger}
 use Rattle.seal_device.specs.Agreement.{FairPlan}
-use Rattle.script_text.specs.Grammar.{Request, SessionOf, UnsealOf}
+use Rattle.script_text.specs.Grammar.{Request, SessionOf, UnsealOf, CheckOf}
 use Rattle.flk_base.specs.Streams.{Intake, Output}
 use Rattle.flk_base.specs.declared.run_end.RunEnd.{RunEnd}
 use Rattle.flk_run.specs.declared.run.ScriptFault.{ScriptFault}
@@ -31,11 +31,12 @@ NothingComparedBy requests p = NothingCompared (script p.around p.fuse requests)
 abbrev pub FairBy : List Request → DigestPlatform → Ledger → Type 0
 FairBy requests p ledger = FairPlan (script p.around p.fuse requests) (p.device, ledger)
 
--- the requests whose events may compare: to run a session, whose code may unseal a blob, and to unseal
--- one
+-- the requests whose events may compare: to run a session, whose code may unseal a blob, to unseal one,
+-- and to check a quote
 abbrev pub may_compare : Request → Bool
 may_compare (SessionOf image inputs nonce var) = true
 may_compare (UnsealOf blob var) = true
+may_compare (CheckOf quote image inputs outputs end nonce texts) = true
 may_compare other = false
 
 -- from a platform of lists the same comes true of one that stands for the new platform of digests

@@ -1,5 +1,5 @@
 -- The answers to events, and the lines of the transcript.
-use Rattle.std.specs.Prelude.{ℕ, ◌+◌, ◌*◌, List, [], ◌∷◌, ◌++◌, length, codes, decimal}
+use Rattle.std.specs.Prelude.{ℕ, ◌+◌, ◌*◌, Bool, true, false, List, [], ◌∷◌, ◌++◌, length, codes, decimal}
 use Rattle.hex.specs.Hex.{encode_lower}
 use Rattle.expr_text.specs.declared.value.ExprFault.{ExprFault}
 use Rattle.expr_text.specs.declared.value.ExprFault.TheVariants as expr
@@ -22,7 +22,7 @@ pub record SessionOver : Type 0 where
   pub outputs : List ℕ
 
 -- an answer: none, that it was done, with a number, with bytes, with the registers of the processor,
--- how a session ended, or why it was not done
+-- how a session ended, yes or no, or why it was not done
 pub data Answer : Type 0 where
   Quiet : Answer
   Done : Answer
@@ -30,6 +30,7 @@ pub data Answer : Type 0 where
   Shows : (bytes : List ℕ) → Answer
   Registers : (values : List ℕ) → Answer
   Ended : (over : SessionOver) → Answer
+  Says : (told : Bool) → Answer
   Refused : (why : Refusal) → Answer
 
 -- what is wrong with an expression, in words
@@ -84,6 +85,11 @@ over_text over =
     ++ counts_text over.turns over.writes_done over.writes_blocked over.writes_left
     ++ codes " x:" ++ encode_lower over.outputs
 
+-- yes or no, in words
+abbrev pub verdict_text : Bool → List ℕ
+verdict_text true = codes "yes"
+verdict_text false = codes "no"
+
 -- line n of the transcript: its number, a space, the text, LF
 abbrev pub numbered_line : ℕ → List ℕ → List ℕ
 numbered_line n text = decimal n ++ codes " " ++ text ++ codes "\n"
@@ -96,6 +102,7 @@ line_of n (Counts m) = numbered_line n (codes "ok " ++ decimal m)
 line_of n (Shows bytes) = numbered_line n (codes "ok x:" ++ encode_lower bytes)
 line_of n (Registers values) = numbered_line n (codes "ok" ++ spaced values)
 line_of n (Ended over) = numbered_line n (over_text over)
+line_of n (Says told) = numbered_line n (codes "ok " ++ verdict_text told)
 line_of n (Refused why) = numbered_line n (refusal_text why)
 
 -- the room that is made for the line of an answer

@@ -3,12 +3,16 @@ use Rattle.std.specs.List.{list_all, range_with_len}
 use Rattle.std.specs.Prelude.{ℕ, ◌+◌, ◌==◌, ◌||◌, count_by, Bool, List, [], ◌∷◌, ◌++◌, length, find, codes, Option, Some, None, Result, Ok, Err, if◌then◌else◌}
 use Rattle.flk_base.specs.Plan.{Plan, Return, ask, ◌>>=◌, run}
 use Rattle.flk_base.specs.Stop.{Limit, limited}
+use Rattle.tpm_state.specs.Chain.{Chain}
+use Rattle.tpm_state.specs.Sessions.{Session, session_chain}
+use Rattle.seal_device.specs.Quoted.{Quoted}
 use Rattle.seal_device.specs.Rules.{Device, Rules}
 use Rattle.seal_device.specs.Commands as command
 use Rattle.seal_device.specs.Commands.{Command, Reply, costs, act}
 use Rattle.seal_device.specs.Refusals.Register as registers
 use Rattle.seal_device.specs.Refusals.Seed as seeds
 use Rattle.seal_device.specs.Refusals.Unseal as unseals
+use Rattle.seal_device.specs.Refusals.Quote as quotes
 use Rattle.seal_device.specs.Refusals.Random as randoms
 use Rattle.tpm_state.specs.Refusals.ReadCounter as reads
 use Rattle.script_text.specs.Grammar.{Request}
@@ -24,10 +28,10 @@ use Rattle.session_driver.specs.Answers.{Course, IsRefused, RunsAt, course_at}
 use Rattle.flk_run.specs.declared.answers.Refusal.{Refusal}
 use Rattle.flk_run.specs.declared.answers.Refusal.TheVariants.{NoRegister, NoImage, NoRoom, NoSpan, NoTaken, NoBlocked, NoInput, NoPlace, NoSeeded, NoSeed, NoBlob, NoChain, NoCounter, NoEnd, PowerLost}
 use Rattle.flk_run.specs.declared.disk.SimDisk.{SimDisk}
-use Rattle.flk_run.specs.Answers.{SessionOver, Answer, Quiet, Done, Counts, Shows, Registers, Ended, Refused, line_of}
+use Rattle.flk_run.specs.Answers.{SessionOver, Answer, Quiet, Done, Counts, Shows, Registers, Ended, Says, Refused, line_of}
 use Rattle.machine_memory.specs.HostMemory.{HostMemory, HostSpan, is_taken, place, starts_at, are_taken, are_open, with_span, without_span, with_bytes}
 use Rattle.flk_run.specs.Platform.{Around, Platform, with_name, with_name_if, with_register, with_armed, with_memory, after_power_on}
-use Rattle.flk_run.specs.Tasks.{Task, Rest, Refuse, Extend, Read, Bind, Show, BindImage, Take, Give, Poke, Peek, Dma, SetRegister, ShowRegisters, Arm, RunSession, Seed, Unseal, ReadCounter, Draw, task_of}
+use Rattle.flk_run.specs.Tasks.{Task, Rest, Refuse, Extend, Read, Bind, Show, BindImage, Take, Give, Poke, Peek, Dma, SetRegister, ShowRegisters, Arm, RunSession, Seed, Unseal, ReadCounter, Draw, Quote, Check, task_of}
 
 -- ---- what memory is after an event, and the answer
 
@@ -168,6 +172,21 @@ abbrev pub after_draw : Option (List ℕ) → Result (List ℕ) randoms.Refusal 
 after_draw var (Ok word) w = (with_name_if var word w, Shows word)
 after_draw var (Err refusal) w = (w, Refused (random_refusal refusal))
 
+-- a quote is shown, and the name is bound to it, where there is one
+abbrev pub after_quote : Option (List ℕ) → Result (List ℕ) quotes.Refusal → Around → Around × Answer
+after_quote var (Ok bytes) w = (with_name_if var bytes w, Shows bytes)
+after_quote var (Err quotes.Unprovisioned) w = (w, Refused NoSeed)
+
+-- what a quote is claimed to be that is checked for a session: of the chain that the session leaves, for
+-- its nonce
+abbrev pub claim_of : Session → Quoted Chain
+claim_of session = record { chain = session_chain session; nonce = session.nonce }
+
+-- what is answered to a check
+abbrev pub check_answer : Result Bool quotes.Refusal → Answer
+check_answer (Ok told) = Says told
+check_answer (Err quotes.Unprovisioned) = Refused NoSeed
+
 -- one command, and the answer to its reply; what is around stays
 abbrev pub answering : (c : Command) → (Reply c → Answer) → Around
     → Plan Command Reply (Around × Answer)
@@ -200,6 +219,9 @@ plan_of (Seed seed) w = answering (command.Provision seed) seed_answer w
 plan_of (Unseal blob var) w = ask (command.Unseal blob) >>= λ reply. Return (after_unseal var reply w)
 plan_of (ReadCounter id) w = answering (command.ReadCounter id) counter_answer w
 plan_of (Draw var) w = ask command.Random >>= λ reply. Return (after_draw var reply w)
+plan_of (Quote nonce var) w = ask (command.Quote nonce) >>= λ reply. Return (after_quote var reply w)
+plan_of (Check session quote) w =
+    answering (command.Check (claim_of session) quote) check_answer w
 
 -- ---- events
 

@@ -4,9 +4,9 @@ use Rattle.std.specs.Prelude.{ℕ, List, [], ◌∷◌, ◌++◌, Option, Some, 
 use Rattle.std.specs.FinMap.{empty, insert}
 use Rattle.flk_base.specs.Stop.{Limit}
 use Rattle.tpm_state.specs.Chain.{Chain}
-use Rattle.seal_device.specs.Sealed.{Sealed}
 use Rattle.seal_device.specs.Rules.{Device, Rules}
 use Rattle.seal_device.specs.Commands.{blank as unused_device}
+use Rattle.seal_device.specs.Lists.{Made}
 use Rattle.seal_device.specs.Agreement.{digested}
 use Rattle.expr_text.specs.Variables.{Table}
 use Rattle.i386_profile.specs.declared.cpu.Cpu.{Cpu}
@@ -25,7 +25,7 @@ pub record Around : Type 0 where
   pub armed : List Armed
   pub variables : Table
 
--- a platform, whose device keeps the history of a register as an H, and of what it sealed an M; the
+-- a platform, whose device keeps the history of a register as an H, and of what it gave out an M; the
 -- fuse says how many commands are left before the power is lost
 pub record Platform (H M : Type 0) : Type 0 where
   pub device : Device H M
@@ -34,9 +34,9 @@ pub record Platform (H M : Type 0) : Type 0 where
   pub fuse : Limit
 
 -- by lists a register is its start and the texts that extended it, and by digests 20 bytes; by lists
--- the records that were sealed are kept, and by digests nothing is
+-- the records that were sealed and the quotes that were made are kept, and by digests nothing is
 abbrev pub ListPlatform : Type 0
-ListPlatform = Platform Chain (List (Sealed Chain))
+ListPlatform = Platform Chain Made
 
 abbrev pub DigestPlatform : Type 0
 DigestPlatform = Platform (List ℕ) (Unit {0})

@@ -1,21 +1,34 @@
 -- How clauses see what the code holds while it does an event.
-use Rattle.std.specs.Prelude.{◌≡◌, ◌≤◌, length, Bool, true, false, [], Some}
+use Rattle.std.specs.Prelude.{◌≡◌, ◌≤◌, length, map, Bool, true, false, [], Some}
 use Rattle.std.specs.Option.{option_map, IfSome}
 use Rattle.seal_device.specs.Digests.{digests}
 use Rattle.script_text.specs.Seen.{IsShortName}
 use Rattle.expr_text.specs.declared.value.TheConstants.{LONGEST_VALUE}
 use Rattle.expr_text.specs.Variables.{Table}
 use Rattle.flk_base.specs.declared.buffer.Bytes.{Bytes}
+use Rattle.tpm_state.specs.Sessions.{Session}
 use Rattle.flk_run.specs.declared.disk.SimDisk.{SimDisk}
 use Rattle.flk_run.specs.declared.answers.TheConstants.{LONGEST_OUTPUTS}
 use Rattle.flk_run.specs.declared.answers.Answer.{Answer as HeldAnswer}
 use Rattle.flk_run.specs.declared.answers.Answer.TheVariants as answer
+use Rattle.flk_run.specs.declared.checks.CheckTask.{CheckTask}
 use Rattle.flk_run.specs.declared.tasks.Task.{Task as HeldTask}
 use Rattle.flk_run.specs.declared.tasks.Task.TheVariants as held
-use Rattle.flk_run.specs.Answers.{Answer, Quiet, Done, Counts, Shows, Registers, Ended, Refused}
+use Rattle.flk_run.specs.Answers.{Answer, Quiet, Done, Counts, Shows, Registers, Ended, Says, Refused}
 use Rattle.flk_run.specs.Events.{task_step}
 use Rattle.flk_run.specs.Parts.{HostParts, platform_with}
-use Rattle.flk_run.specs.Tasks.{Task, Rest, Refuse, Extend, Read, Bind, Show, BindImage, Take, Give, Poke, Peek, Dma, SetRegister, ShowRegisters, Arm, RunSession, Seed, Unseal, ReadCounter, Draw}
+use Rattle.flk_run.specs.Tasks.{Task, Rest, Refuse, Extend, Read, Bind, Show, BindImage, Take, Give, Poke, Peek, Dma, SetRegister, ShowRegisters, Arm, RunSession, Seed, Unseal, ReadCounter, Draw, Quote, Check}
+
+-- the session that is described to a check
+abbrev pub seen_session : CheckTask → Session
+seen_session check = record {
+  image = check.image.bytes;
+  texts = map (λ text. text.bytes) check.texts.items;
+  inputs = check.inputs.bytes;
+  outputs = check.outputs.bytes;
+  end = check.end;
+  nonce = check.nonce;
+}
 
 -- the task, with bytes in place of what holds them
 abbrev pub seen_task : HeldTask → Task
@@ -42,6 +55,8 @@ seen_task (held.Unseal unseal) =
     Unseal unseal.blob.bytes (option_map (λ bound. bound.name.now) unseal.bound)
 seen_task (held.ReadCounter id) = ReadCounter id
 seen_task (held.Draw bound) = Draw (option_map (λ bound. bound.name.now) bound)
+seen_task (held.Quote nonce bound) = Quote nonce (option_map (λ bound. bound.name.now) bound)
+seen_task (held.Check check) = Check (seen_session check) check.quote.bytes
 
 -- the name that a task binds has 1 to 16 bytes
 abbrev pub IsNamed : Task → Type 0
@@ -50,6 +65,7 @@ IsNamed (BindImage name image) = IsShortName name
 IsNamed (RunSession image inputs nonce (Some name)) = IsShortName name
 IsNamed (Unseal blob (Some name)) = IsShortName name
 IsNamed (Draw (Some name)) = IsShortName name
+IsNamed (Quote nonce (Some name)) = IsShortName name
 IsNamed _ = Unit {0}
 
 -- there is room for the outputs of a session, or for what was sealed in a blob, and nothing stands
@@ -59,14 +75,15 @@ pub record IsRoom (room : Bytes) : Type 0 where
   pub enough : LONGEST_OUTPUTS ≤ room.spare
 
 -- a task that runs a session has room for its outputs, and one that unseals a blob for what was sealed
--- in it: for showing them, and for the name that it binds; one that draws a random word has room for
--- the name alone
+-- in it: for showing them, and for the name that it binds; one that draws a random word or quotes has
+-- room for the name alone
 abbrev pub HasRoom : HeldTask → Type 0
 HasRoom (held.RunSession session) =
     IsRoom session.outputs × IfSome session.bound (λ bound. IsRoom bound.value)
 HasRoom (held.Unseal unseal) =
     IsRoom unseal.bytes × IfSome unseal.bound (λ bound. IsRoom bound.value)
 HasRoom (held.Draw bound) = IfSome bound (λ bound. IsRoom bound.value)
+HasRoom (held.Quote nonce bound) = IfSome bound (λ bound. IsRoom bound.value)
 HasRoom other = Unit {0}
 
 -- what a task shows has at most 65,536 bytes
@@ -82,6 +99,7 @@ binds (BindImage name image) = true
 binds (RunSession image inputs nonce (Some name)) = true
 binds (Unseal blob (Some name)) = true
 binds (Draw (Some name)) = true
+binds (Quote nonce (Some name)) = true
 binds _ = false
 
 -- a task takes a span
@@ -103,6 +121,7 @@ seen_answer answer.Quiet = Quiet
 seen_answer answer.Done = Done
 seen_answer (answer.Counts n) = Counts n
 seen_answer (answer.Register value) = Shows value
+seen_answer (answer.Quoted value) = Shows value
 seen_answer (answer.Shows value) = Shows value.bytes
 seen_answer (answer.Peeked bytes) = Shows bytes.items
 seen_answer (answer.Registers values) = Registers values
@@ -114,6 +133,7 @@ seen_answer (answer.Ended over) = Ended (record {
   writes_left = over.writes_left;
   outputs = over.outputs.bytes;
 })
+seen_answer (answer.Says told) = Says told
 seen_answer (answer.Refused why) = Refused why
 
 -- the outputs that an answer shows have at most 4,096 bytes

@@ -1,26 +1,29 @@
 -- What an event comes to once its expressions have their values, which is first.
-use Rattle.std.specs.Prelude.{ℕ, ◌+◌, ◌*◌, ◌==◌, nat_le, nat_lt, List, length, Option, Some, None, Result, Ok, Err, IsOk, if◌then◌else◌}
+use Rattle.std.specs.Prelude.{ℕ, ◌+◌, ◌*◌, ◌==◌, nat_le, nat_lt, List, [], ◌∷◌, length, Option, Some, None, Result, Ok, Err, IsOk, if◌then◌else◌}
+use Rattle.flk_base.specs.Checks.{◌>>=◌}
+use Rattle.tpm_state.specs.Sessions.{Session}
 use Rattle.expr_text.specs.Expressions.{Term}
 use Rattle.expr_text.specs.Variables.{Table}
 use Rattle.expr_text.specs.Values.{value_of}
 use Rattle.expr_text.specs.declared.value.TheConstants.{LONGEST_VALUE}
-use Rattle.script_text.specs.Grammar.{Request, Nothing, ExtendBy, ReadOf, LetBe, ShowOf, ImageOf, TakeOf, GiveAt, PokeAt, PeekAt, DmaAt, SetRegOf, RegsOf, ArmAt, SessionOf, SeedOf, UnsealOf, CounterOf, RandomOf}
+use Rattle.script_text.specs.Grammar.{Request, Nothing, ExtendBy, ReadOf, LetBe, ShowOf, ImageOf, TakeOf, GiveAt, PokeAt, PeekAt, DmaAt, SetRegOf, RegsOf, ArmAt, SessionOf, SeedOf, UnsealOf, CounterOf, RandomOf, QuoteOf, CheckOf}
 use Rattle.expr_text.specs.declared.value.ExprFault.{ExprFault}
 use Rattle.slb_image.specs.Image.{pack}
 use Rattle.slb_image.specs.Faults.{build_fault}
 use Rattle.slb_image.specs.declared.fault.ImageFault.{ImageFault}
-use Rattle.flk_run.specs.declared.answers.TheConstants.{LINE_ROOM, REGISTER_ROOM, UNSEAL_ROOM, SESSION_ROOM}
+use Rattle.flk_run.specs.declared.answers.TheConstants.{LINE_ROOM, REGISTER_ROOM, QUOTE_ROOM, UNSEAL_ROOM, SESSION_ROOM}
 use Rattle.flk_run.specs.declared.tasks.TheConstants.{NONCE_LEN}
 use Rattle.flk_run.specs.declared.answers.Refusal.{Refusal}
-use Rattle.flk_run.specs.declared.answers.Refusal.TheVariants.{NoValue, NoImage, NoLong, NoNonce, NoCounter}
+use Rattle.flk_run.specs.declared.answers.Refusal.TheVariants.{NoValue, NoImage, NoLong, NoNonce, NoCounter, NoEnd}
 
 -- nothing; to answer a refusal; to extend a register by a text; to read one; to bind a name to a
 -- value; to show a value; to bind a name to an image, and to answer how long it is; to take a span of
 -- memory, to give one back, to write bytes into one, to show bytes of one, or to have a device write
 -- bytes; to set a register of the processor, to show all, to arm a device write for a turn of the
 -- next session, or to run a session, and to bind a name to its outputs; to give the device a seed, to
--- unseal a blob, and to bind a name to what was sealed in it; to read a counter; or to draw a random
--- word, and to bind a name to it
+-- unseal a blob, and to bind a name to what was sealed in it; to read a counter; to draw a random
+-- word, and to bind a name to it; to quote register 17 for a nonce, and to bind a name to the quote; or
+-- to check whether bytes are the quote of a session
 pub data Task : Type 0 where
   Rest : Task
   Refuse : (why : Refusal) → Task
@@ -42,6 +45,8 @@ pub data Task : Type 0 where
   Unseal : (blob : List ℕ) → (var : Option (List ℕ)) → Task
   ReadCounter : (id : ℕ) → Task
   Draw : (var : Option (List ℕ)) → Task
+  Quote : (nonce : List ℕ) → (var : Option (List ℕ)) → Task
+  Check : (session : Session) → (quote : List ℕ) → Task
 
 -- the room that is made for the line of a task's answer; nothing has no line
 abbrev pub room : Task → ℕ
@@ -50,6 +55,7 @@ room (Show bytes) = LINE_ROOM + 2 * length bytes
 room (Peek at count) = LINE_ROOM + 2 * count
 room (RunSession image inputs nonce var) = SESSION_ROOM
 room (Unseal blob var) = UNSEAL_ROOM
+room (Quote nonce var) = QUOTE_ROOM
 room other = REGISTER_ROOM
 
 -- beside that room, a task may allocate: for a value, for a name, for bytes of memory to show, for a
@@ -90,6 +96,32 @@ abbrev pub session_or_nonce : List ℕ → List ℕ → List ℕ → Option (Lis
 session_or_nonce image inputs nonce var =
     if length nonce == NONCE_LEN then RunSession image inputs nonce var else Refuse NoNonce
 
+-- a quote, where the nonce has 20 bytes
+abbrev pub quote_or_nonce : List ℕ → Option (List ℕ) → Task
+quote_or_nonce nonce var = if length nonce == NONCE_LEN then Quote nonce var else Refuse NoNonce
+
+-- the last number that may be a session's end
+abbrev pub last_end : ℕ
+last_end = 255
+
+-- a check, where the nonce has 20 bytes and there can be such an end
+abbrev pub check_or_refusal : Session → List ℕ → Task
+check_or_refusal session quote =
+    if length session.nonce == NONCE_LEN
+    then (if nat_le session.end last_end then Check session quote else Refuse NoEnd)
+    else Refuse NoNonce
+
+-- the values of expressions, or the first fault from the left
+abbrev pub values_of : List (List Term) → Table → Result (List (List ℕ)) ExprFault
+values_of [] table = Ok []
+values_of (terms ∷ others) table =
+    value_of terms table >>= λ value. values_of others table >>= λ values. Ok (value ∷ values)
+
+-- the task for the values of expressions; the first fault of one that has none is the answer
+abbrev pub tasks_or_fault : Result (List (List ℕ)) ExprFault → (List (List ℕ) → Task) → Task
+tasks_or_fault (Ok values) task = task values
+tasks_or_fault (Err fault) task = Refuse (NoValue fault)
+
 -- the last number that a counter may be asked for by
 abbrev pub last_counter : ℕ
 last_counter = 255
@@ -124,8 +156,29 @@ task_of (SeedOf seed) table = value_task seed table (λ bytes. Seed bytes)
 task_of (UnsealOf blob var) table = value_task blob table (λ bytes. Unseal bytes var)
 task_of (CounterOf id) table = counter_or_none id
 task_of (RandomOf var) table = Draw var
+task_of (QuoteOf nonce var) table = value_task nonce table (λ nonce. quote_or_nonce nonce var)
+task_of (CheckOf quote image inputs outputs end nonce texts) table =
+    value_task quote table (λ quote.
+    value_task image table (λ image.
+    value_task inputs table (λ inputs.
+    value_task outputs table (λ outputs.
+    value_task nonce table (λ nonce.
+    tasks_or_fault (values_of texts table) (λ texts.
+    check_or_refusal
+    (record {
+      image = image;
+      texts = texts;
+      inputs = inputs;
+      outputs = outputs;
+      end = end;
+      nonce = nonce;
+    }) quote))))))
 
--- a request may allocate where its task may; that of a session, where its first expression has a value
+-- a request may allocate where its task may; that of a session, of a quote and of a check, where its
+-- first expression has a value
 abbrev pub MayAllocateFor : Request → Table → Type 0
 MayAllocateFor (SessionOf image inputs nonce var) table = IsOk (value_of image table)
+MayAllocateFor (QuoteOf nonce var) table = IsOk (value_of nonce table)
+MayAllocateFor (CheckOf quote image inputs outputs end nonce texts) table =
+    IsOk (value_of quote table)
 MayAllocateFor other table = MayAllocate (task_of other table)

@@ -1,7 +1,7 @@
 // The answers to events, as lines of the transcript.
 ghost use Rattle.std.specs.Prelude.{◌≡◌, ◌+◌, ◌*◌, ◌≤◌, ◌++◌, [], ◌∷◌, length, codes, decimal};
 ghost use Rattle.hex.specs.Hex.{encode_lower};
-ghost use Rattle.flk_run.specs.Answers.{fault_text, end_text, counts_text, spaced, numbered_line, line_of, room_of, Done, Counts, Shows, Registers, Refused};
+ghost use Rattle.flk_run.specs.Answers.{fault_text, end_text, counts_text, spaced, numbered_line, line_of, room_of, Done, Counts, Shows, Registers, Says, Refused};
 ghost use Rattle.flk_run.specs.Seen.{seen_answer, HasShortOutputs};
 
 use flk_base::{Bytes, print_hex};
@@ -19,6 +19,9 @@ pub(crate) const REGISTER_ROOM: usize = LINE_ROOM + 40;
 
 /// The most bytes of outputs that a session has.
 pub(crate) const LONGEST_OUTPUTS: usize = 4096;
+
+/// The room that it has with a quote.
+pub(crate) const QUOTE_ROOM: usize = LINE_ROOM + 80;
 
 /// The room that it has with what was sealed in a blob.
 pub(crate) const UNSEAL_ROOM: usize = LINE_ROOM + 2 * LONGEST_SEALED;
@@ -61,7 +64,7 @@ pub enum Refusal {
     NoChain,
     /// The counter is not in use, or one that a blob bears has another value.
     NoCounter,
-    /// There are no more random words.
+    /// There are no more random words, or no session ends so.
     NoEnd,
     /// The power was lost before the event was done.
     PowerLost,
@@ -90,6 +93,8 @@ pub(crate) enum Answer {
     Counts(usize),
     /// It shows the value of a register.
     Register([u8; 20]),
+    /// It shows a quote.
+    Quoted([u8; 40]),
     /// It shows a value.
     Shows(Bytes),
     /// It shows bytes of memory.
@@ -98,6 +103,8 @@ pub(crate) enum Answer {
     Registers([u32; 8]),
     /// A session ended.
     Ended(SessionOver),
+    /// It says yes or no.
+    Says(bool),
     /// It was not done.
     Refused(Refusal),
 }
@@ -242,6 +249,18 @@ fn put_over(out: &mut Bytes, number: u32, over: &SessionOver)
     out.put(b"\n");
 }
 
+// A line that says yes or no.
+fn put_verdict(out: &mut Bytes, number: u32, yes: bool)
+    requires { LINE_ROOM ≤ out.old.spare }
+    ensures { out.new.bytes ≡ out.old.bytes ++ line_of number (Says yes) }
+{
+    if yes {
+        put_line(out, number, b"ok yes");
+    } else {
+        put_line(out, number, b"ok no");
+    }
+}
+
 // What is wrong with an expression.
 fn fault_text(fault: ExprFault) -> &'static [u8]
     ensures text { result.now ≡ fault_text fault }
@@ -304,10 +323,12 @@ pub(crate) fn put_answer(out: &mut Bytes, number: u32, answer: &Answer)
         Answer::Done => put_done(out, number),
         Answer::Counts(count) => put_count(out, number, *count),
         Answer::Register(value) => put_value(out, number, value),
+        Answer::Quoted(value) => put_value(out, number, value),
         Answer::Shows(value) => put_value(out, number, value.as_slice()),
         Answer::Peeked(bytes) => put_value(out, number, bytes),
         Answer::Registers(values) => put_registers(out, number, values),
         Answer::Ended(over) => put_over(out, number, over),
+        Answer::Says(yes) => put_verdict(out, number, *yes),
         Answer::Refused(refusal) => put_refusal(out, number, *refusal),
     }
 }

@@ -1,6 +1,6 @@
 // What an event does, once its values are there.
 ghost use Rattle.std.specs.Prelude.{◌≡◌, ◌≤◌, true, false, IfOk, IsErr, OnErr};
-ghost use Rattle.std.specs.Option.{option_map};
+ghost use Rattle.std.specs.Option.{option_map, IfSome};
 ghost use Rattle.script_text.specs.Seen.{IsShortName};
 ghost use Rattle.seal_device.specs.Digests.{digests};
 ghost use Rattle.flk_run.specs.declared.disk.SimDisk.{SimDisk as DiskView};
@@ -8,9 +8,9 @@ ghost use Rattle.flk_run.specs.Answers.{room_of};
 ghost use Rattle.flk_run.specs.Events.{task_step};
 ghost use Rattle.flk_run.specs.Parts.{platform_with};
 ghost use Rattle.flk_run.specs.Seen.{seen_task, seen_answer, binds, takes, may_run_out, IsNamed, IsRoom, HasRoom, HasShortOutputs, IsShortShown};
-ghost use Rattle.flk_run.specs.Tasks.{room, MayAllocate};
+ghost use Rattle.flk_run.specs.Tasks.{Quote, room, MayAllocate};
 ghost use Rattle.flk_run.specs.Sessions.{table_after, table_with, shown_in};
-ghost use Rattle.flk_run.specs.declared.answers.TheConstants.{REGISTER_ROOM, SESSION_ROOM, UNSEAL_ROOM};
+ghost use Rattle.flk_run.specs.declared.answers.TheConstants.{QUOTE_ROOM, REGISTER_ROOM, SESSION_ROOM, UNSEAL_ROOM};
 ghost use Rattle.flk_run.specs.declared.tasks.Task.TheVariants as HeldTask;
 
 use crate::answers::Answer;
@@ -93,6 +93,8 @@ fn done(host: Host, vars: &mut Vars, task: Task<'_>) -> (Host, Answer)
         Task::Unseal(unseal) => return run_unseal(host, vars, unseal),
         Task::ReadCounter { id } => return host.read_counter(id),
         Task::Draw(bound) => return run_draw(host, vars, bound),
+        Task::Quote { nonce, bound } => return run_quote(host, vars, &nonce, bound),
+        Task::Check(check) => return host.check(&check),
     }
 }
 
@@ -175,6 +177,32 @@ fn run_draw(host: Host, vars: &mut Vars, bound: Option<Bound<'_>>) -> (Host, Ans
     (host, answer)
 }
 
+// Quotes register 17 for a nonce, and binds the name to the quote, where there is one and it was made.
+fn run_quote(
+    host: Host,
+    vars: &mut Vars,
+    nonce: &[u8; 20],
+    bound: Option<Bound<'_>>,
+) -> (Host, Answer)
+    requires named { IsNamed (Quote nonce.now (option_map (λ bound. bound.name.now) bound)) }
+    requires room { IfSome bound (λ bound. IsRoom bound.value) }
+    requires name { binds (Quote nonce.now (option_map (λ bound. bound.name.now) bound)) ≡ true
+        → 1 ≤ vars.old.spare }
+    ensures untaken { result.0.untaken ≡ host.untaken }
+    ensures done { host.untaken ≡ true → (disk : DiskView) →
+        (platform_with result.0.armed result.0.board result.0.spans disk vars.new.table, seen_answer result.1)
+        ≡ task_step digests (Quote nonce.now (option_map (λ bound. bound.name.now) bound.entry))
+        (platform_with host.armed host.board host.spans disk vars.old.table) }
+    ensures fits { room_of (seen_answer result.1) ≤ QUOTE_ROOM }
+    ensures short { HasShortOutputs (seen_answer result.1) }
+{
+    let (host, answer) = host.quote(nonce);
+    if let Some(Bound { name, value }) = bound {
+        bind_bytes(vars, name, value, &answer);
+    }
+    (host, answer)
+}
+
 // Binds a name to the outputs of a session that ended.
 fn bind_outputs(vars: &mut Vars, name: &[u8], value: Bytes, answer: &Answer)
     requires name { IsShortName name.now }
@@ -211,6 +239,7 @@ fn shown_bytes(answer: &Answer) -> Option<&[u8]>
 {
     match answer {
         Answer::Register(value) => Some(value),
+        Answer::Quoted(value) => Some(value),
         Answer::Shows(value) => Some(value.as_slice()),
         Answer::Peeked(bytes) => Some(bytes),
         _ => None,

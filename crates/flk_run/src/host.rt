@@ -1,16 +1,17 @@
 // What the host does with a board: events without expressions.
 ghost use Rattle.std.specs.Prelude.{◌≡◌, ◌↔◌, IsErr, ◌+◌, ◌*◌, ◌≤◌, length, slice_set, take, true, None, OnOk, OnErr, IfOk};
 ghost use Rattle.flk_run.specs.Answers.{room_of};
-ghost use Rattle.flk_run.specs.Seen.{Steps, seen_answer, HasShortOutputs, IsShortShown, IsRoom};
+ghost use Rattle.flk_run.specs.Seen.{Steps, seen_answer, seen_session, HasShortOutputs, IsShortShown, IsRoom};
 ghost use Rattle.flk_run.specs.Sessions.{answer_to_end, armed_after};
 ghost use Rattle.slb_core.specs.Reports.{count_of};
-ghost use Rattle.flk_run.specs.Tasks.{Extend, Read, Take, Give, Poke, Peek, Dma as WriteByDevice, SetRegister, ShowRegisters, Arm, RunSession, Seed, Unseal, ReadCounter, Draw};
+ghost use Rattle.flk_run.specs.Tasks.{Extend, Read, Take, Give, Poke, Peek, Dma as WriteByDevice, SetRegister, ShowRegisters, Arm, RunSession, Seed, Unseal, ReadCounter, Draw, Quote, Check};
 
 use crate::answers::{
-    Answer, LINE_ROOM, LONGEST_OUTPUTS, REGISTER_ROOM, Refusal, SESSION_ROOM, SessionOver,
-    UNSEAL_ROOM,
+    Answer, LINE_ROOM, LONGEST_OUTPUTS, QUOTE_ROOM, REGISTER_ROOM, Refusal, SESSION_ROOM,
+    SessionOver, UNSEAL_ROOM,
 };
 use crate::board::{dev_write, give, host_read, host_write, take};
+use crate::checks::{CheckTask, is_said};
 use crate::spans::{Spans, keep, room_for_ticket, ticket_at};
 use flk_base::{Bytes, NoMemory};
 use i386_profile::Cpu;
@@ -18,7 +19,7 @@ use late_launch::{Board, End};
 use machine_memory::{DevEnd, Dma, Memory, TakeFault, frame_law};
 use region_pool::Ticket;
 use seal_device::{
-    CounterFault, LONGEST_SEALED, Provisioned, RandomFault, RegisterFault, UnsealFault,
+    CounterFault, LONGEST_SEALED, Provisioned, QuoteFault, RandomFault, RegisterFault, UnsealFault,
 };
 use session_driver::{SessionEnd, session};
 use std::alloc::Global;
@@ -216,6 +217,35 @@ impl Host {
             Err(RandomFault::PowerLost) => return host.power_lost(),
             Err(RandomFault::Unprovisioned) => return (host, Answer::Refused(Refusal::NoSeed)),
             Err(RandomFault::RandomEnd) => return (host, Answer::Refused(Refusal::NoEnd)),
+        }
+    }
+
+    /// The quote of register 17 for a nonce.
+    pub(crate) fn quote(self, nonce: &[u8; 20]) -> (Host, Answer)
+        ensures untaken { result.0.untaken ≡ self.untaken }
+        ensures steps { self.untaken ≡ true → Steps (Quote nonce.now None) self result.0 result.1 }
+        ensures fits { room_of (seen_answer result.1) ≤ QUOTE_ROOM }
+        ensures short { IsShortShown (seen_answer result.1) }
+    {
+        let mut host = self;
+        match host.board.quote(nonce) {
+            Ok(quote) => return (host, Answer::Quoted(quote)),
+            Err(QuoteFault::PowerLost) => return host.power_lost(),
+            Err(QuoteFault::Unprovisioned) => return (host, Answer::Refused(Refusal::NoSeed)),
+        }
+    }
+
+    /// Whether bytes are the quote of a session.
+    pub(crate) fn check(self, check: &CheckTask) -> (Host, Answer)
+        ensures untaken { result.0.untaken ≡ self.untaken }
+        ensures steps { self.untaken ≡ true
+            → Steps (Check (seen_session check.now) check.now.quote.bytes) self result.0 result.1 }
+        ensures fits { room_of (seen_answer result.1) ≤ REGISTER_ROOM }
+        ensures short { HasShortOutputs (seen_answer result.1) }
+    {
+        match self.board.quote_key() {
+            Some(key) => return (self, Answer::Says(is_said(&key, check))),
+            None => return (self, Answer::Refused(Refusal::NoSeed)),
         }
     }
 

@@ -4,6 +4,7 @@
 
 mod answers;
 mod board;
+mod checks;
 mod disk;
 mod events;
 mod host;

@@ -5,12 +5,13 @@ ghost use Rattle.expr_text.specs.Values.{value_of};
 ghost use Rattle.script_text.specs.Seen.{request_of, HasShortName};
 ghost use Rattle.slb_image.specs.Faults.{build_fault};
 ghost use Rattle.slb_image.specs.Image.{pack};
-ghost use Rattle.flk_run.specs.Tasks.{Extend, Bind, Show, Poke, Dma, Arm, Seed, Unseal, Draw, value_task, image_or_fault, peek_or_long, session_or_nonce, counter_or_none, room, task_of, MayAllocateFor};
+ghost use Rattle.flk_run.specs.Tasks.{Extend, Bind, Show, Poke, Dma, Arm, Seed, Unseal, Draw, value_task, image_or_fault, peek_or_long, session_or_nonce, quote_or_nonce, counter_or_none, room, task_of, MayAllocateFor};
 ghost use Rattle.flk_run.specs.Seen.{seen_task, binds, takes, IsNamed, IsShown, IsRoom, HasRoom};
 
 use crate::answers::{
-    LINE_ROOM, LONGEST_OUTPUTS, REGISTER_ROOM, Refusal, SESSION_ROOM, UNSEAL_ROOM,
+    LINE_ROOM, LONGEST_OUTPUTS, QUOTE_ROOM, REGISTER_ROOM, Refusal, SESSION_ROOM, UNSEAL_ROOM,
 };
+use crate::checks::{Asked, CheckTask, check_task};
 use flk_base::{Bytes, NoMemory};
 use script_text::{Event, Expr, ExprError, ExprFault, LONGEST_VALUE, Vars};
 use slb_image::{BuildError, build};
@@ -52,45 +53,89 @@ pub(crate) enum Task<'e> {
     /// To answer why it is not done.
     Refuse(Refusal),
     /// To extend a register by the text `host` and these bytes.
-    Extend { r: u32, text: Bytes },
+    Extend {
+        r: u32,
+        text: Bytes,
+    },
     /// To show a register.
-    Read { r: u32 },
+    Read {
+        r: u32,
+    },
     /// To bind a name to a value.
-    Bind { name: &'e [u8], value: Bytes },
+    Bind {
+        name: &'e [u8],
+        value: Bytes,
+    },
     /// To show a value.
-    Show { value: Bytes },
+    Show {
+        value: Bytes,
+    },
     /// To bind a name to an image, and to answer how long it is.
-    BindImage { name: &'e [u8], image: Bytes },
+    BindImage {
+        name: &'e [u8],
+        image: Bytes,
+    },
     /// To take a span of so many frames.
-    Take { frames: u32 },
+    Take {
+        frames: u32,
+    },
     /// To give back the span that starts at an address.
-    Give { at: u32 },
+    Give {
+        at: u32,
+    },
     /// To write bytes of one span for the host.
-    Poke { at: u32, bytes: Bytes },
+    Poke {
+        at: u32,
+        bytes: Bytes,
+    },
     /// To show bytes of one span, for which these have the room.
-    Peek { at: u32, bytes: Vec<u8> },
+    Peek {
+        at: u32,
+        bytes: Vec<u8>,
+    },
     /// To write bytes for a device.
-    Dma { at: u32, bytes: Bytes },
+    Dma {
+        at: u32,
+        bytes: Bytes,
+    },
     /// To set a register of the processor.
-    SetRegister { reg: u8, n: u32 },
+    SetRegister {
+        reg: u8,
+        n: u32,
+    },
     /// To show the registers of the processor.
     ShowRegisters,
     /// To arm a device write for a turn of the next session.
-    Arm { turn: u32, at: u32, bytes: Bytes },
+    Arm {
+        turn: u32,
+        at: u32,
+        bytes: Bytes,
+    },
     /// To run a session.
     RunSession(SessionTask<'e>),
     /// To give the device a seed.
-    Seed { seed: Bytes },
+    Seed {
+        seed: Bytes,
+    },
     /// To unseal a blob.
     Unseal(UnsealTask<'e>),
     /// To read a counter.
-    ReadCounter { id: u8 },
+    ReadCounter {
+        id: u8,
+    },
     /// To draw a random word, and to bind a name to it, where there is one.
     Draw(Option<Bound<'e>>),
+    /// To quote register 17 for a nonce, and to bind a name to the quote, where there is one.
+    Quote {
+        nonce: [u8; NONCE_LEN],
+        bound: Option<Bound<'e>>,
+    },
+    /// To check whether bytes are the quote of a session.
+    Check(CheckTask),
 }
 
-// What an expression is worth: its value, or why it has none; neither where memory ran out.
-fn worth(
+/// What an expression is worth: its value, or why it has none; neither where memory ran out.
+pub(crate) fn worth(
     alloc: Global,
     expression: &Expr,
     vars: &Vars,
@@ -370,6 +415,40 @@ fn draw_task<'e>(alloc: Global, var: &'e Option<Bytes>) -> Result<Task<'e>, NoMe
     }
 }
 
+// A quote for these bytes, where they are 20, with room for the name's value.
+fn quote_of<'e>(alloc: Global, nonce: &[u8], var: &'e Option<Bytes>) -> Result<Task<'e>, NoMemory>
+    ensures task { IfOk result (λ task. seen_task task
+        ≡ quote_or_nonce nonce.now (option_map (λ name. name.bytes) var.now)) }
+    ensures room { IfOk result HasRoom }
+{
+    let Some(nonce) = nonce.as_array() else {
+        return Ok(Task::Refuse(Refusal::NoNonce));
+    };
+    let bound = bound_of(alloc, var)?;
+    Ok(Task::Quote {
+        nonce: *nonce,
+        bound,
+    })
+}
+
+fn quote_task<'e>(
+    alloc: Global,
+    nonce: &Expr,
+    var: &'e Option<Bytes>,
+    vars: &Vars,
+) -> Result<Task<'e>, NoMemory>
+    ensures task { IfOk result (λ task. seen_task task
+        ≡ value_task nonce.now vars.now.table (λ nonce.
+        quote_or_nonce nonce (option_map (λ name. name.bytes) var.now))) }
+    ensures room { IfOk result HasRoom }
+    ensures memory { IsErr result → IsOk (value_of nonce.now vars.now.table) }
+{
+    match worth(alloc, nonce, vars)? {
+        Ok(nonce) => return quote_of(alloc, nonce.as_slice(), var),
+        Err(fault) => return Ok(Task::Refuse(Refusal::NoValue(fault))),
+    }
+}
+
 // The values of a session's expressions, from the left.
 fn session_task<'e>(
     alloc: Global,
@@ -454,6 +533,27 @@ pub(crate) fn task_of<'e>(
         Event::Unseal { blob, var } => return unseal_task(alloc, blob, var, vars),
         Event::Counter { id } => return Ok(counter_task(*id)),
         Event::Random { var } => return draw_task(alloc, var),
+        Event::Quote { nonce, var } => return quote_task(alloc, nonce, var, vars),
+        Event::Check {
+            quote,
+            image,
+            inputs,
+            outputs,
+            end,
+            nonce,
+            texts,
+        } => {
+            let asked = Asked {
+                quote,
+                image,
+                inputs,
+                outputs,
+                end: *end,
+                nonce,
+                texts,
+            };
+            return check_task(alloc, asked, vars);
+        }
     }
 }
 
@@ -469,6 +569,7 @@ impl Task<'_> {
             Task::Peek { at: _, bytes } => LINE_ROOM + 2 * bytes.len(),
             Task::RunSession(_) => SESSION_ROOM,
             Task::Unseal(_) => UNSEAL_ROOM,
+            Task::Quote { .. } => QUOTE_ROOM,
             _ => REGISTER_ROOM,
         }
     }
@@ -482,6 +583,7 @@ impl Task<'_> {
             Task::RunSession(session) => session.bound.is_some(),
             Task::Unseal(unseal) => unseal.bound.is_some(),
             Task::Draw(bound) => bound.is_some(),
+            Task::Quote { nonce: _, bound } => bound.is_some(),
             _ => false,
         }
     }

@@ -65,3 +65,10 @@ returns-in-ReadCounter-clause-done c =
 
 pub returns-in-Draw-clause-done : goal.returns-in-Draw-clause-done
 returns-in-Draw-clause-done c = rw c.in-Draw.is c.run_draw.ensures.done
+
+pub returns-in-Quote-clause-done : goal.returns-in-Quote-clause-done
+returns-in-Quote-clause-done c = rw c.in-Quote.is c.run_quote.ensures.done
+
+pub returns-in-Check-clause-done : goal.returns-in-Check-clause-done
+returns-in-Check-clause-done c =
+    rw c.in-Check.is (λ untaken disk. c.check.ensures.steps untaken disk c.args.vars.now.table)

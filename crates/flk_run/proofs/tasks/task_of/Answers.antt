@@ -6,3 +6,6 @@ returns-in-Image-clause-task c =
 
 pub returns-in-Session-clause-task : goal.returns-in-Session-clause-task
 returns-in-Session-clause-task c = rw c.in-Session.is c.session_task.ensures.task
+
+pub returns-in-Quote-clause-task : goal.returns-in-Quote-clause-task
+returns-in-Quote-clause-task c = rw c.in-Quote.is c.quote_task.ensures.task
