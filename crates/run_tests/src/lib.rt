@@ -12,6 +12,8 @@ mod hosts;
 #[cfg(test)]
 mod machine;
 #[cfg(test)]
+mod quoting;
+#[cfg(test)]
 mod regions;
 #[cfg(test)]
 mod runs;
