@@ -4,4 +4,5 @@ pub mod LineLemmas
 pub mod MemoryLemmas
 pub mod ReaderLemmas
 pub mod ReadingLemmas
+pub mod VerifyLemmas
 pub mod WordLemmas

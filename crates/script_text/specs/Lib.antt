@@ -5,4 +5,5 @@ pub mod Lines
 pub mod Reader
 pub mod Reading
 pub mod Seen
+pub mod Verify
 pub mod Words

@@ -5,6 +5,7 @@ mod argument;
 mod command;
 mod line;
 mod reader;
+mod verify;
 mod words;
 
 pub use expr_text::{Expr, ExprError, ExprFault, Exprs, LONGEST_VALUE, Vars, one_expression};
@@ -12,3 +13,4 @@ pub use line::{
     BadLine, Event, LONGEST_LINE, LineError, LineFault, MOST_LINES, one_request, read_line,
 };
 pub use reader::{AnyEnd, LineEnd, LineReader, READ_SIZE};
+pub use verify::{Texts, VerifyFault, VerifyLine, one_claim, read_verify};
