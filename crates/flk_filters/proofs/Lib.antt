@@ -1,3 +1,4 @@
 mod AssemblyLemmas
 mod HexLemmas
 mod InputLemmas
+mod VerdictLemmas

@@ -1,6 +1,7 @@
 -- The filters, the commands that read their whole input: why an input is not of a filter's form,
 -- and what is written of one that is.
-use Rattle.std.specs.Prelude.{◌≡◌, ℕ, ◌==◌, ◌||◌, not, nat_lt, Bool, List, [], ◌++◌, length, filter, codes, Option, Some, None, Result, Ok, Err, IsOk, if◌then◌else◌}
+use Rattle.std.specs.Prelude.{◌≡◌, ℕ, ◌≤◌, ◌-◌, ◌==◌, ◌||◌, not, nat_lt, Bool, List, [], ◌++◌, length, take, slice_index, filter, bytes_eq, codes, Option, Some, None, Result, Ok, Err, IsOk, if◌then◌else◌}
+use Rattle.std.specs.Option.{ok_or}
 use Rattle.hex.specs.Hex.{decode_of, encode_lower}
 use Rattle.sha1.specs.Sha1.{sha1}
 use Rattle.flk_base.specs.Checks.{◌>>=◌}
@@ -12,11 +13,15 @@ use Rattle.pal_asm.specs.Lines.{lines}
 use Rattle.pal_asm.specs.Statements.{most_code}
 use Rattle.pal_asm.specs.Assembling.{code_of, line_alone, first_tokens}
 use Rattle.pal_asm.specs.Listing.{Lists}
+use Rattle.quote_check.specs.Sessions.{Session, session_chain}
+use Rattle.quote_check.specs.Quotes.{quote_of}
+use Rattle.script_text.specs.Lines.{is_line_end, content, words}
+use Rattle.script_text.specs.Verify.{Claim, verify_reading}
 use Rattle.flk_filters.specs.declared.input.TheConstants.{MOST_INPUT}
 use Rattle.flk_filters.specs.declared.filter.Filter.{Filter}
-use Rattle.flk_filters.specs.declared.filter.Filter.TheVariants.{Asm, Dis, Measure}
+use Rattle.flk_filters.specs.declared.filter.Filter.TheVariants.{Asm, Dis, Measure, Verify}
 use Rattle.flk_filters.specs.declared.fault.BadInput.{BadInput}
-use Rattle.flk_filters.specs.declared.fault.BadInput.TheVariants.{TooLong, Hex, Assembly, NotImage}
+use Rattle.flk_filters.specs.declared.fault.BadInput.TheVariants.{TooLong, Hex, Assembly, NotImage, VerifyLine, Denied}
 
 -- the most bytes that an input may have
 abbrev pub most_input : ℕ
@@ -96,6 +101,47 @@ measures image =
 abbrev pub measure_text : List ℕ → Result (List ℕ) BadInput
 measure_text input = image_in input >>= λ image. Ok (measures image)
 
+-- ---- verify
+
+-- an input without the LF at its end
+abbrev pub without_line_end : List ℕ → List ℕ
+without_line_end input =
+    if is_line_end (slice_index input (length input - 1)) then take (length input - 1) input
+    else input
+
+-- what the line of `verify` claims
+abbrev pub claim_in : List ℕ → Result Claim BadInput
+claim_in input =
+    at_most most_input input >>= λ text. ok_or (verify_reading (without_line_end text)) VerifyLine
+
+-- the session that a line describes
+abbrev pub session_of : Claim → Session
+session_of claim = record {
+  image = claim.image;
+  texts = claim.texts;
+  inputs = claim.inputs;
+  outputs = claim.outputs;
+  end = claim.end;
+  nonce = claim.nonce;
+}
+
+-- the quote is that of the session, under the key for quotes and for the nonce
+abbrev pub is_true : Claim → Bool
+is_true claim =
+    bytes_eq claim.quote (quote_of claim.key claim.nonce (value (session_chain (session_of claim))))
+
+-- a line of its form may still claim what is not so
+abbrev pub or_denied : Claim → Result Claim BadInput
+or_denied claim = if is_true claim then Ok claim else Err Denied
+
+-- the line that `verify` writes of a claim that is true
+abbrev pub verify_text : List ℕ → Result (List ℕ) BadInput
+verify_text input = claim_in input >>= or_denied >>= λ claim. Ok (codes "yes\n")
+
+-- the line that it writes of one that is not
+abbrev pub denial : List ℕ
+denial = codes "no\n"
+
 -- ---- each filter
 
 -- the fault, if there is one
@@ -103,11 +149,12 @@ abbrev pub fault_of : {A : Type 0} → Result A BadInput → Option BadInput
 fault_of (Ok x) = None
 fault_of (Err bad) = Some bad
 
--- why the input is not of the filter's form
+-- why the input is not of the filter's form, or that it claims what is not so
 abbrev pub fault_in : Filter → List ℕ → Option BadInput
 fault_in Asm input = fault_of (assembly_text input)
 fault_in Dis input = fault_of (code_in input)
 fault_in Measure input = fault_of (measure_text input)
+fault_in Verify input = fault_of (verify_text input)
 
 -- what there is without a fault
 abbrev pub or_nothing : Result (List ℕ) BadInput → List ℕ
@@ -119,14 +166,18 @@ abbrev pub Filters : Filter → List ℕ → List ℕ → Type 0
 Filters Asm input text = text ≡ or_nothing (assembly_text input)
 Filters Dis input text = IsListing (code_in input) text
 Filters Measure input text = text ≡ or_nothing (measure_text input)
+Filters Verify input text = text ≡ or_nothing (verify_text input)
 
 -- ---- memory
 
 -- memory may run out over an input only where it has none of the faults that are found before
 -- anything is allocated: of an assembler text these are its length and what is wrong with its first
--- line that is not blank by itself, of code all, of an image those of its digits
+-- line that is not blank by itself, of code all, of an image those of its digits, of a line of
+-- `verify` its length and that it has fewer than seven words
 abbrev pub MayRunOut : Filter → List ℕ → Type 0
 MayRunOut Asm input =
     IsOk (at_most most_input input) × IsOk (line_alone (first_tokens (lines input)))
 MayRunOut Dis input = IsOk (code_in input)
 MayRunOut Measure input = IsOk (hex_in input)
+MayRunOut Verify input =
+    IsOk (at_most most_input input) × (7 ≤ length (words (content (without_line_end input))))

@@ -7,7 +7,8 @@ use Rattle.flk_base.specs.declared.run_end.RunEnd.{RunEnd}
 use Rattle.flk_base.specs.declared.run_end.RunEnd.TheVariants.{Done, Bad, ReadFault, Cut, NoMemory}
 use Rattle.flk_filters.specs.declared.filter.Filter.{Filter}
 use Rattle.flk_filters.specs.declared.fault.BadInput.{BadInput}
-use Rattle.flk_filters.specs.Filters.{most_input, fault_in, Filters, MayRunOut}
+use Rattle.flk_filters.specs.declared.fault.BadInput.TheVariants.{Denied}
+use Rattle.flk_filters.specs.Filters.{most_input, denial, fault_in, Filters, MayRunOut}
 
 -- the bytes are all of the source, or one more than an input may have
 pub record IsInput (taken : List ℕ) (ended : Bool) : Type 0 where
@@ -30,6 +31,17 @@ pub record Makes (which : Filter) (taken text : List ℕ) : Type 0 where
   pub good : fault_in which taken ≡ None
   pub made : Filters which taken text
 
+-- the filter writes no: the input is of its form, and claims what is not so
+pub record Denies (which : Filter) (taken text : List ℕ) : Type 0 where
+  pub bad : fault_in which taken ≡ Some Denied
+  pub no : text ≡ denial
+
+-- what was written of an input that is not of its form is nothing, and of one that claims what is
+-- not so it is no
+abbrev pub IsTold : BadInput → Option (List ℕ) → Option (List ℕ) → Type 0
+IsTold Denied out out' = Appends out out' denial
+IsTold other out out' = out' ≡ out
+
 module _ (which : Filter) (source source' out out' : Option (List ℕ)) where
   -- the text of the input was written
   pub record Filtered : Type 0 where
@@ -44,16 +56,16 @@ module _ (which : Filter) (source source' out out' : Option (List ℕ)) where
     pub taken : List ℕ
     pub text : List ℕ
     pub takes : TakesInput source source' taken
-    pub makes : Makes which taken text
+    pub due : Makes which taken text ⊎ Denies which taken text
     pub some : text ≢ []
     pub written : AppendsPrefix out out' [] text
 
-  -- the input has this fault, and nothing was written
+  -- the input has this fault, and no was written of it or nothing
   pub record Refused (bad : BadInput) : Type 0 where
     pub taken : List ℕ
     pub takes : TakesInput source source' taken
     pub fault : fault_in which taken ≡ Some bad
-    pub unwritten : out' ≡ out
+    pub told : IsTold bad out out'
 
   -- a read failed, and nothing was written
   pub record InputCut : Type 0 where

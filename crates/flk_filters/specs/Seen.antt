@@ -6,13 +6,15 @@ use Rattle.flk_base.specs.Checks.{◌>>=◌}
 use Rattle.flk_base.specs.Known.{AppendsPrefix}
 use Rattle.flk_base.specs.declared.run_end.RunEnd.{RunEnd}
 use Rattle.flk_base.specs.declared.run_end.RunEnd.TheVariants.{Done, Cut}
+use Rattle.flk_base.specs.declared.run_end.RunEnd.TheVariants as end
 use Rattle.slb_image.specs.Faults.{image_fault}
 use Rattle.flk_filters.specs.declared.filter.Filter.{Filter}
 use Rattle.flk_filters.specs.declared.fault.BadInput.{BadInput}
+use Rattle.flk_filters.specs.declared.fault.BadInput.TheVariants.{Denied}
 use Rattle.flk_filters.specs.declared.fault.FilterFault.{FilterFault}
 use Rattle.flk_filters.specs.declared.fault.FilterFault.TheVariants.{Bad, NoMemory}
-use Rattle.flk_filters.specs.Filters.{most_input, or_no_image, measures, fault_in, MayRunOut}
-use Rattle.flk_filters.specs.Inputs.{Makes}
+use Rattle.flk_filters.specs.Filters.{most_input, denial, or_no_image, measures, fault_in, MayRunOut}
+use Rattle.flk_filters.specs.Inputs.{Makes, IsTold}
 
 -- the fault that an error stands for: none where memory ran out
 abbrev pub input_fault : FilterFault → Option BadInput
@@ -48,3 +50,9 @@ abbrev pub TextWritten : RunEnd BadInput → Option (List ℕ) → Option (List 
 TextWritten Done out out' text = Appends out out' text
 TextWritten (Cut fault) out out' text = (text ≢ []) × AppendsPrefix out out' [] text
 TextWritten other out out' text = ⊥
+
+-- an input with this fault was refused: what was written of it, or of no not all
+abbrev pub IsRefused : BadInput → RunEnd BadInput → Option (List ℕ) → Option (List ℕ) → Type 0
+IsRefused bad (end.Bad other) out out' = (other ≡ bad) × IsTold bad out out'
+IsRefused bad (Cut fault) out out' = (bad ≡ Denied) × AppendsPrefix out out' [] denial
+IsRefused bad other out out' = ⊥

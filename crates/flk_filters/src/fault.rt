@@ -13,6 +13,10 @@ pub enum BadInput {
     Assembly(AsmFault),
     /// It is no image, for this reason.
     NotImage(ImageFault),
+    /// It is no line of `verify`.
+    VerifyLine,
+    /// It is a line of `verify`, and the quote is not that of the session.
+    Denied,
 }
 
 /// Why nothing is made of an input.

@@ -9,4 +9,6 @@ pub enum Filter {
     Dis,
     /// From an image in hexadecimal to its digest, and to what register 17 shows after its launch.
     Measure,
+    /// From a line that describes a session to whether the quote in it is that of the session.
+    Verify,
 }

@@ -2,7 +2,7 @@
 ghost use Rattle.flk_base.specs.Streams.{intake, output};
 ghost use Rattle.flk_base.specs.RunEnds.{HasCauses, WriteHasCause};
 ghost use Rattle.flk_filters.specs.Inputs.{FilterRan};
-ghost use Rattle.flk_filters.specs.Seen.{GivesText, TextWritten};
+ghost use Rattle.flk_filters.specs.Seen.{GivesText, IsRefused, TextWritten};
 
 use crate::asm::assembly_text;
 use crate::dis::listing_text;
@@ -10,11 +10,15 @@ use crate::fault::{BadInput, FilterFault};
 use crate::filter::Filter;
 use crate::input::{read_buffer, read_input, room_for_input};
 use crate::measure::measure_text;
+use crate::verify::verify_text;
 use flk_base::{Bytes, RunEnd, Sink, Source};
 use std::alloc::Global;
 
+const NO: &[u8; 3] = b"no\n";
+
 /// Reads the whole input, and writes what the filter makes of it by one put. Of an input that is
-/// not of its form nothing is written. All that reading needs is allocated before the first read.
+/// not of its form nothing is written, and `no` of a line of `verify` whose quote is another. All
+/// that reading needs is allocated before the first read.
 pub fn run_filter<S: Source, K: Sink>(
     alloc: Global,
     filter: Filter,
@@ -40,7 +44,7 @@ pub fn run_filter<S: Source, K: Sink>(
     }
     match text_of(alloc, filter, input.as_slice()) {
         Ok(text) => write(text.as_slice(), out),
-        Err(FilterFault::Bad(bad)) => RunEnd::Bad(bad),
+        Err(FilterFault::Bad(bad)) => refuse(bad, out),
         Err(FilterFault::NoMemory) => RunEnd::NoMemory,
     }
 }
@@ -53,6 +57,7 @@ fn text_of(alloc: Global, filter: Filter, input: &[u8]) -> Result<Bytes, FilterF
         Filter::Asm => assembly_text(alloc, input),
         Filter::Dis => listing_text(alloc, input),
         Filter::Measure => measure_text(alloc, input),
+        Filter::Verify => verify_text(alloc, input),
     }
 }
 
@@ -66,6 +71,28 @@ fn write<K: Sink>(text: &[u8], out: &mut K) -> RunEnd<BadInput>
     }
     match out.put(text) {
         Ok(()) => RunEnd::Done,
+        Err(fault) => RunEnd::Cut(fault),
+    }
+}
+
+// Writes what is written of an input with this fault.
+fn refuse<K: Sink>(bad: BadInput, out: &mut K) -> RunEnd<BadInput>
+    ensures told { IsRefused bad result (K.contents out.old) (K.contents out.new) }
+    ensures caused { WriteHasCause result (output K.Sink out.old out.new) }
+{
+    match bad {
+        BadInput::Denied => deny(out),
+        _ => RunEnd::Bad(bad),
+    }
+}
+
+// Writes no.
+fn deny<K: Sink>(out: &mut K) -> RunEnd<BadInput>
+    ensures told { IsRefused BadInput.Denied result (K.contents out.old) (K.contents out.new) }
+    ensures caused { WriteHasCause result (output K.Sink out.old out.new) }
+{
+    match out.put(NO) {
+        Ok(()) => RunEnd::Bad(BadInput::Denied),
         Err(fault) => RunEnd::Cut(fault),
     }
 }
