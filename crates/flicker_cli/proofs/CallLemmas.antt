@@ -26,18 +26,18 @@ use Rattle.flk_run.proofs.AgreementLemmas.{run_from}
 use Rattle.flk_run.specs.Runs.{Ran, AllDone}
 use Rattle.flk_base.proofs.TakenLemmas.{the_end, says_end}
 use Rattle.flk_filters.specs.declared.fault.BadInput.{BadInput}
-use Rattle.flk_filters.specs.declared.fault.BadInput.TheVariants.{TooLong}
+use Rattle.flk_filters.specs.declared.fault.BadInput.TheVariants.{TooLong, Hex, Assembly, NotImage, VerifyLine, Denied}
 use Rattle.flk_filters.specs.declared.filter.Filter.{Filter as Which}
-use Rattle.flk_filters.specs.declared.filter.Filter.TheVariants.{Asm, Dis, Measure}
+use Rattle.flk_filters.specs.declared.filter.Filter.TheVariants.{Asm, Dis, Measure, Verify}
 use Rattle.flk_filters.specs.Filters.{most_input, fault_in}
 use Rattle.flk_filters.specs.Inputs.{IsInput, FilterRan, Filtered, Refused}
 use Rattle.flicker_cli.specs.declared.words.Command.{Command}
 use Rattle.flicker_cli.specs.declared.words.Command.TheVariants.{Run, Filter}
 use Rattle.flicker_cli.specs.declared.fault.Fault.{Fault}
 use Rattle.flicker_cli.specs.declared.fault.Fault.TheVariants.{Words, Script, Input}
-use Rattle.flicker_cli.specs.Messages.{message_of, fault_status}
+use Rattle.flicker_cli.specs.Messages.{message_of, input_status, status_of}
 use Rattle.flicker_cli.specs.Calls.{ScriptRan, InputRan, CallRan, Reported, status_after, Answered, AnsweredTwice, call_done}
-use Rattle.flicker_cli.specs.Texts.{script_end, input_end, end_on, IsText}
+use Rattle.flicker_cli.specs.Texts.{script_end, input_end, end_on, IsText, IsTextStatus, IsDenied}
 
 -- ---- what the bytes taken are
 
@@ -75,6 +75,7 @@ too_long : (which : Which) (input : List ℕ) → most_input + 1 ≤ length inpu
 too_long Asm input long = let t : nat_lt most_input (length input) ≡ true = grind (arith, nat_tests, long) in rw t refl
 too_long Dis input long = let t : nat_lt most_input (length input) ≡ true = grind (arith, nat_tests, long) in rw t refl
 too_long Measure input long = let t : nat_lt most_input (length input) ≡ true = grind (arith, nat_tests, long) in rw t refl
+too_long Verify input long = let t : nat_lt most_input (length input) ≡ true = grind (arith, nat_tests, long) in rw t refl
 
 -- a longer input has the same fault, where it may be longer
 settled_input : (which : Which) (taken : List ℕ) (ended : Bool) (fault : Option BadInput) → IsInput taken ended → fault_in which taken ≡ fault → IsSettled (end_on (Some (Filter which))) taken ended (input_end fault)
@@ -210,18 +211,33 @@ answered_twice task status source out err old new a = record {
 
 -- ---- statuses
 
-fault_few : (fault : Fault) → (fault_status fault ≡ 1) ⊎ ((fault_status fault ≡ 2) × (fault ≡ Words))
-fault_few Words = inr (refl, refl)
-fault_few (Script first) = inl refl
-fault_few (Input bad) = inl refl
+input_few : (bad : BadInput) → (input_status bad ≡ 1) ⊎ ((input_status bad ≡ 6) × (bad ≡ Denied))
+input_few Denied = inr (refl, refl)
+input_few other = inl refl
 
-pub known_after : (end : RunEnd Fault) (cut : Option PutFault) → status_after end cut ≤ 5
+-- no input has the status of another end
+not_input : (bad : BadInput) (n : ℕ) → 2 ≤ n → n ≤ 5 → input_status bad ≡ n → ⊥
+not_input bad n least most is = elim (input_few bad) [
+  | inl one ↦ omega (arith, is, one)
+  | inr six ↦ omega (arith, is, six.0)
+]
+
+not_text : (n : ℕ) → 3 ≤ n → n ≤ 5 → IsTextStatus n → ⊥
+not_text n least most is = elim is [
+  | inl few ↦ omega arith
+  | inr six ↦ omega arith
+]
+
+pub known_after : (end : RunEnd Fault) (cut : Option PutFault) → status_after end cut ≤ 6
 known_after end (Some put.Failed) = omega arith
 known_after end (Some put.NoMemory) = omega arith
 known_after Done None = omega arith
 known_after (Bad Words) None = omega arith
 known_after (Bad (Script first)) None = omega arith
-known_after (Bad (Input bad)) None = omega arith
+known_after (Bad (Input bad)) None = elim (input_few bad) [
+  | inl one ↦ omega (arith, one)
+  | inr six ↦ omega (arith, six.0)
+]
 known_after ReadFault None = omega arith
 known_after (Cut put.Failed) None = omega arith
 known_after (Cut put.NoMemory) None = omega arith
@@ -233,21 +249,37 @@ two_after end (Some put.NoMemory) is = absurd (omega (arith, is))
 two_after Done None is = absurd (omega (arith, is))
 two_after (Bad Words) None is = refl
 two_after (Bad (Script first)) None is = absurd (omega (arith, is))
-two_after (Bad (Input bad)) None is = absurd (omega (arith, is))
+two_after (Bad (Input bad)) None is = absurd (not_input bad 2 (omega arith) (omega arith) is)
 two_after ReadFault None is = absurd (omega (arith, is))
 two_after (Cut put.Failed) None is = absurd (omega (arith, is))
 two_after (Cut put.NoMemory) None is = absurd (omega (arith, is))
 two_after NoMemory None is = absurd (omega (arith, is))
 
-pub few_after : (end : RunEnd Fault) (cut : Option PutFault) → status_after end cut ≤ 2 → IsTextEnd end × (cut ≡ None)
-few_after end (Some put.Failed) few = absurd (omega (arith, few))
-few_after end (Some put.NoMemory) few = absurd (omega (arith, few))
+pub few_after : (end : RunEnd Fault) (cut : Option PutFault) → IsTextStatus (status_after end cut) → IsTextEnd end × (cut ≡ None)
+few_after end (Some put.Failed) few = absurd (not_text 4 (omega arith) (omega arith) few)
+few_after end (Some put.NoMemory) few = absurd (not_text 5 (omega arith) (omega arith) few)
 few_after Done None few = (tt, refl)
 few_after (Bad fault) None few = (tt, refl)
-few_after ReadFault None few = absurd (omega (arith, few))
-few_after (Cut put.Failed) None few = absurd (omega (arith, few))
-few_after (Cut put.NoMemory) None few = absurd (omega (arith, few))
-few_after NoMemory None few = absurd (omega (arith, few))
+few_after ReadFault None few = absurd (not_text 3 (omega arith) (omega arith) few)
+few_after (Cut put.Failed) None few = absurd (not_text 4 (omega arith) (omega arith) few)
+few_after (Cut put.NoMemory) None few = absurd (not_text 5 (omega arith) (omega arith) few)
+few_after NoMemory None few = absurd (not_text 5 (omega arith) (omega arith) few)
+
+-- only a line of `verify` has status 6
+six_after : (end : RunEnd Fault) (cut : Option PutFault) → status_after end cut ≡ 6 → end ≡ Bad (Input Denied)
+six_after end (Some put.Failed) is = absurd (omega (arith, is))
+six_after end (Some put.NoMemory) is = absurd (omega (arith, is))
+six_after Done None is = absurd (omega (arith, is))
+six_after (Bad Words) None is = absurd (omega (arith, is))
+six_after (Bad (Script first)) None is = absurd (omega (arith, is))
+six_after (Bad (Input bad)) None is = elim (input_few bad) [
+  | inl one ↦ absurd (omega (arith, is, one))
+  | inr six ↦ ap (λ (b : BadInput). Bad (Input b)) six.1
+]
+six_after ReadFault None is = absurd (omega (arith, is))
+six_after (Cut put.Failed) None is = absurd (omega (arith, is))
+six_after (Cut put.NoMemory) None is = absurd (omega (arith, is))
+six_after NoMemory None is = absurd (omega (arith, is))
 
 -- the status of words that are no command
 pub words_after : (cut : Option PutFault) → (status_after (Bad Words) cut ≡ 2) ⊎ ((status_after (Bad Words) cut ≡ 4) ⊎ (status_after (Bad Words) cut ≡ 5))
@@ -262,7 +294,7 @@ module _ (source : Intake) (out err : Output) where
   three_after Done None caused is = absurd (omega (arith, is))
   three_after (Bad Words) None caused is = absurd (omega (arith, is))
   three_after (Bad (Script first)) None caused is = absurd (omega (arith, is))
-  three_after (Bad (Input bad)) None caused is = absurd (omega (arith, is))
+  three_after (Bad (Input bad)) None caused is = absurd (not_input bad 3 (omega arith) (omega arith) is)
   three_after ReadFault None caused is = caused.read.1
   three_after (Cut put.Failed) None caused is = absurd (omega (arith, is))
   three_after (Cut put.NoMemory) None caused is = absurd (omega (arith, is))
@@ -275,7 +307,7 @@ module _ (source : Intake) (out err : Output) where
   four_after Done None caused said is = absurd (omega (arith, is))
   four_after (Bad Words) None caused said is = absurd (omega (arith, is))
   four_after (Bad (Script first)) None caused said is = absurd (omega (arith, is))
-  four_after (Bad (Input bad)) None caused said is = absurd (omega (arith, is))
+  four_after (Bad (Input bad)) None caused said is = absurd (not_input bad 4 (omega arith) (omega arith) is)
   four_after ReadFault None caused said is = absurd (omega (arith, is))
   four_after (Cut put.Failed) None caused said is = inl caused.write.1
   four_after (Cut put.NoMemory) None caused said is = absurd (omega (arith, is))
@@ -283,20 +315,18 @@ module _ (source : Intake) (out err : Output) where
 
 -- ---- texts
 
--- what a source is of which these bytes were taken that are all
-no_fault : (task : Option Command) (content : List ℕ) (fault : Fault) (now : Option (List ℕ)) → Judged task (Bad fault) (Some content) now → end_on task content true ≡ Done → ⊥
-no_fault task content fault None j good = j.takes.consumed
-no_fault task content fault (Some rest) j good =
+-- what was taken of a source settles the end of all of it
+whole_end : (task : Option Command) (content : List ℕ) (end : RunEnd Fault) (now : Option (List ℕ)) → Judged task end (Some content) now → end_on task content true ≡ end
+whole_end task content end None j = absurd j.takes.consumed
+whole_end task content end (Some rest) j =
     let whole : content ≡ j.taken ++ rest = j.takes.consumed in
-    let bad : end_on task (j.taken ++ rest) true ≡ Bad fault = j.settled.stays rest j.takes.end.0 in
-    let same : end_on task (j.taken ++ rest) true ≡ Done = ap (λ bytes. end_on task bytes true) (sym whole) ∙ good in
-    cc
+    ap (λ bytes. end_on task bytes true) whole ∙ j.settled.stays rest j.takes.end.0
 
 module _ {H M : Type 0} (R : Rules H M) (source : Intake) (out err : Output) (old new : Option (Platform H M)) where
   -- a call whose status is 0, 1 or 2
-  pub text_of : (task : Option Command) (status : ℕ) → Answered R task status source out err old new → status ≤ 2 → IsText task status source err
+  pub text_of : (task : Option Command) (status : ℕ) → Answered R task status source out err old new → IsTextStatus status → IsText task status source err
   text_of task status a few =
-      let w = few_after a.end a.cut (subst (λ (n : ℕ). n ≤ 2) a.answer few) in
+      let w = few_after a.end a.cut (subst IsTextStatus a.answer few) in
       let j = judged_call R source out old new task a.end w.0 a.ran in
       let said : Reported (message_of a.end) None err = subst (λ (c : Option PutFault). Reported (message_of a.end) c err) w.1 a.reported in
       record {
@@ -310,17 +340,27 @@ module _ {H M : Type 0} (R : Rules H M) (source : Intake) (out err : Output) (ol
         answer = a.answer ∙ ap (status_after a.end) w.1;
       }
 
-  -- a source that is of its command's form
+  settled_end : (task : Option Command) (content : List ℕ) (end : RunEnd Fault) → IsTextEnd end → CallRan R task end source out old new → source.old.left ≡ Some content
+      → end_on task content true ≡ end
+  settled_end task content end is ran known = let j = judged_call R source out old new task end is ran in
+      whole_end task content end source.new.left (subst (λ (o : Option (List ℕ)). Judged task end o source.new.left) known j)
+
+  -- the end of a source
   pub complete_call : (task : Option Command) (content : List ℕ) (end : RunEnd Fault) (cut : Option PutFault) → CallRan R task end source out old new → HasCauses end source out → Reported (message_of end) cut err
-      → source.old.left ≡ Some content → end_on task content true ≡ Done
-      → (status_after end cut ≡ 0) ⊎ ((status_after end cut ≡ 5) ⊎ (Rose source.old.faults source.new.faults ⊎ (Rose out.old.faults out.new.faults ⊎ Rose err.old.faults err.new.faults)))
-  complete_call task content end (Some put.Failed) ran caused said known good = inr (inr (inr (inr said.2.1)))
-  complete_call task content end (Some put.NoMemory) ran caused said known good = inr (inl refl)
-  complete_call task content Done None ran caused said known good = inl refl
-  complete_call task content (Bad fault) None ran caused said known good =
-      let j = judged_call R source out old new task (Bad fault) tt ran in
-      absurd (no_fault task content fault source.new.left (subst (λ (o : Option (List ℕ)). Judged task (Bad fault) o source.new.left) known j) good)
-  complete_call task content ReadFault None ran caused said known good = inr (inr (inl caused.read.1))
-  complete_call task content (Cut put.Failed) None ran caused said known good = inr (inr (inr (inl caused.write.1)))
-  complete_call task content (Cut put.NoMemory) None ran caused said known good = inr (inl refl)
-  complete_call task content NoMemory None ran caused said known good = inr (inl refl)
+      → source.old.left ≡ Some content
+      → (status_after end cut ≡ status_of (end_on task content true)) ⊎ ((status_after end cut ≡ 5) ⊎ (Rose source.old.faults source.new.faults ⊎ (Rose out.old.faults out.new.faults ⊎ Rose err.old.faults err.new.faults)))
+  complete_call task content end (Some put.Failed) ran caused said known = inr (inr (inr (inr said.2.1)))
+  complete_call task content end (Some put.NoMemory) ran caused said known = inr (inl refl)
+  complete_call task content Done None ran caused said known = inl (ap status_of (sym (settled_end task content Done tt ran known)))
+  complete_call task content (Bad fault) None ran caused said known = inl (ap status_of (sym (settled_end task content (Bad fault) tt ran known)))
+  complete_call task content ReadFault None ran caused said known = inr (inr (inl caused.read.1))
+  complete_call task content (Cut put.Failed) None ran caused said known = inr (inr (inr (inl caused.write.1)))
+  complete_call task content (Cut put.NoMemory) None ran caused said known = inr (inl refl)
+  complete_call task content NoMemory None ran caused said known = inr (inl refl)
+
+  -- a call whose status is 6
+  pub denied_call : (task : Option Command) (status : ℕ) → Answered R task status source out err old new → status ≡ 6 → IsDenied task source
+  denied_call task status a six =
+      let is : a.end ≡ Bad (Input Denied) = six_after a.end a.cut (sym a.answer ∙ six) in
+      let j = judged_call R source out old new task a.end (subst IsTextEnd (sym is) tt) a.ran in
+      denied_judged task source.old.left source.new.left source (subst (λ (e : RunEnd Fault). Judged task e source.old.left source.new.left) is j)

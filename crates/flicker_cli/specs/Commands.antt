@@ -3,7 +3,7 @@ use Rattle.std.specs.Prelude.{ℕ, List, [], ◌∷◌, Option, Some, None, code
 use Rattle.std.specs.Str.{bytes_eq}
 use Rattle.flicker_cli.specs.declared.words.Command.{Command}
 use Rattle.flicker_cli.specs.declared.words.Command.TheVariants.{Run, Filter}
-use Rattle.flk_filters.specs.declared.filter.Filter.TheVariants.{Asm, Dis, Measure}
+use Rattle.flk_filters.specs.declared.filter.Filter.TheVariants.{Asm, Dis, Measure, Verify}
 
 -- the command of a word
 abbrev pub word_command : List ℕ → Option Command
@@ -12,6 +12,7 @@ word_command word =
     else if bytes_eq word (codes "asm") then Some (Filter Asm)
     else if bytes_eq word (codes "dis") then Some (Filter Dis)
     else if bytes_eq word (codes "measure") then Some (Filter Measure)
+    else if bytes_eq word (codes "verify") then Some (Filter Verify)
     else None
 
 -- each of these commands is one word

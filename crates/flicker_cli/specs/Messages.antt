@@ -38,12 +38,14 @@ asm_text asm.TooLong = codes "code too long"
 abbrev pub line_message : ℕ → List ℕ → List ℕ
 line_message n text = codes "flicker: line " ++ decimal n ++ codes ": " ++ text ++ codes "\n"
 
--- the message on an input that is not of its filter's form
+-- the message on an input that is not of its filter's form; on a line of `verify` whose quote is another there is none
 abbrev pub input_message : BadInput → List ℕ
 input_message input.TooLong = codes "flicker: input too long\n"
 input_message input.Hex = codes "flicker: bad hex\n"
 input_message (input.Assembly fault) = line_message fault.line (asm_text fault.kind)
 input_message (input.NotImage fault) = codes "flicker: not an image: " ++ decimal (fault_number fault) ++ codes "\n"
+input_message input.VerifyLine = codes "flicker: bad verify line\n"
+input_message input.Denied = []
 
 -- the message on what is not of its form; where the words are, it says what they may be
 abbrev pub fault_message : Fault → List ℕ
@@ -60,10 +62,16 @@ message_of (Cut put.Failed) = codes "flicker: write fault\n"
 message_of (Cut put.NoMemory) = codes "flicker: no memory\n"
 message_of NoMemory = codes "flicker: no memory\n"
 
+-- the status of an input that is not of its filter's form, and of a line of `verify` whose quote is another
+abbrev pub input_status : BadInput → ℕ
+input_status input.Denied = 6
+input_status other = 1
+
 -- the status of what is not of its form
 abbrev pub fault_status : Fault → ℕ
 fault_status Words = 2
-fault_status other = 1
+fault_status (Script first) = 1
+fault_status (Input bad) = input_status bad
 
 -- the status where that message is written
 abbrev pub status_of : RunEnd Fault → ℕ

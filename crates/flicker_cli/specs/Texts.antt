@@ -1,5 +1,5 @@
 -- How a call ends by its words and the bytes taken alone.
-use Rattle.std.specs.Prelude.{◌≡◌, ℕ, Bool, true, List, Option, Some, None}
+use Rattle.std.specs.Prelude.{◌≡◌, ◌⊎◌, ℕ, ◌≤◌, Bool, true, false, List, Option, Some, None, Ok}
 use Rattle.std.specs.Io.KnownBytes.{Appends}
 use Rattle.flk_base.specs.Streams.{Intake, Output, Takes, IsSettled}
 use Rattle.flk_base.specs.declared.run_end.RunEnd.{RunEnd}
@@ -7,7 +7,9 @@ use Rattle.flk_base.specs.declared.run_end.RunEnd.TheVariants.{Done, Bad}
 use Rattle.flk_run.specs.declared.run.ScriptFault.{ScriptFault}
 use Rattle.flk_run.specs.Runs.{bad_in}
 use Rattle.flk_filters.specs.declared.fault.BadInput.{BadInput}
-use Rattle.flk_filters.specs.Filters.{fault_in}
+use Rattle.script_text.specs.Verify.{Claim}
+use Rattle.flk_filters.specs.declared.filter.Filter.TheVariants.{Verify}
+use Rattle.flk_filters.specs.Filters.{claim_in, is_true, fault_in}
 use Rattle.flicker_cli.specs.declared.words.Command.{Command}
 use Rattle.flicker_cli.specs.declared.words.Command.TheVariants.{Run, Filter}
 use Rattle.flicker_cli.specs.declared.fault.Fault.{Fault}
@@ -29,6 +31,20 @@ abbrev pub end_on : Option Command → List ℕ → Bool → RunEnd Fault
 end_on None taken ended = Bad Words
 end_on (Some Run) taken ended = script_end (bad_in taken ended)
 end_on (Some (Filter which)) taken ended = input_end (fault_in which taken)
+
+-- the status is that of a call whose end is that of its words and the bytes taken
+abbrev pub IsTextStatus : ℕ → Type 0
+IsTextStatus status = (status ≤ 2) ⊎ (status ≡ 6)
+
+-- the command is `verify`, the whole source was taken, it is a line of its form, and the quote in it is not that of the
+-- session that it describes
+pub record IsDenied (task : Option Command) (source : Intake) : Type 0 where
+  pub taken : List ℕ
+  pub takes : Takes source.old.left source.new.left taken true
+  pub verify : task ≡ Some (Filter Verify)
+  pub claim : Claim
+  pub read : claim_in taken ≡ Ok claim
+  pub denied : is_true claim ≡ false
 
 -- the end is that of the bytes taken, whatever follows them; err has its message, and the status is its own
 pub record IsText (task : Option Command) (status : ℕ) (source : Intake) (err : Output) : Type 0 where

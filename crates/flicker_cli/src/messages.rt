@@ -1,7 +1,7 @@
 // What is put on err.
 ghost use Rattle.std.specs.Prelude.{◌≡◌, ◌≢◌, ◌+◌, ◌≤◌, ◌++◌, [], length, codes, decimal, true};
 ghost use Rattle.flk_base.specs.Streams.{output};
-ghost use Rattle.flicker_cli.specs.Messages.{bad_text, asm_text, line_message, input_message, fault_message, message_of, status_of};
+ghost use Rattle.flicker_cli.specs.Messages.{bad_text, asm_text, line_message, input_message, fault_message, message_of, input_status, status_of};
 ghost use Rattle.flicker_cli.specs.Room.{wants_room};
 ghost use Rattle.flicker_cli.specs.Calls.{Reported, status_after};
 
@@ -102,7 +102,22 @@ fn put_input_message(message: &mut Bytes, bad: BadInput)
         BadInput::Hex => message.put(b"flicker: bad hex\n"),
         BadInput::Assembly(fault) => put_line_message(message, fault.line, asm_text(fault.kind)),
         BadInput::NotImage(fault) => put_image_message(message, fault),
+        BadInput::VerifyLine => message.put(b"flicker: bad verify line\n"),
+        BadInput::Denied => {}
     }
+}
+
+// Reports an input that is not of its filter's form; of a line of `verify` whose quote is another nothing is said.
+fn report_input<E: Sink>(bad: BadInput, room: &mut Bytes, err: &mut E) -> Option<PutFault>
+    requires empty { room.old.bytes ≡ [] }
+    requires room { 64 ≤ room.old.spare }
+    ensures { Reported (input_message bad) result (output E.Sink err.old err.new) }
+{
+    if matches!(bad, BadInput::Denied) {
+        return None;
+    }
+    put_input_message(room, bad);
+    say(err, room.as_slice())
 }
 
 // Reports what is not of its form. `room` is where a message is made that has a number or a word of its own.
@@ -113,7 +128,7 @@ fn report_fault<E: Sink>(fault: Fault, room: &mut Bytes, err: &mut E) -> Option<
     match fault {
         Fault::Words => return say(err, USAGE),
         Fault::Script(first) => put_line_message(room, first.line, bad_text(first.bad)),
-        Fault::Input(bad) => put_input_message(room, bad),
+        Fault::Input(bad) => return report_input(bad, room, err),
     }
     say(err, room.as_slice())
 }
@@ -133,6 +148,16 @@ pub fn report<E: Sink>(end: RunEnd<Fault>, room: &mut Bytes, err: &mut E) -> Opt
     }
 }
 
+// The status of an input that is not of its filter's form, and of a line of `verify` whose quote is another.
+fn input_status(bad: BadInput) -> u8
+    ensures { result ≡ input_status bad }
+{
+    match bad {
+        BadInput::Denied => 6,
+        _ => 1,
+    }
+}
+
 // The status where the message of an end is written.
 fn status_of(end: RunEnd<Fault>) -> u8
     ensures { result ≡ status_of end }
@@ -141,7 +166,7 @@ fn status_of(end: RunEnd<Fault>) -> u8
         RunEnd::Done => 0,
         RunEnd::Bad(Fault::Words) => 2,
         RunEnd::Bad(Fault::Script(_)) => 1,
-        RunEnd::Bad(Fault::Input(_)) => 1,
+        RunEnd::Bad(Fault::Input(bad)) => input_status(bad),
         RunEnd::ReadFault => 3,
         RunEnd::Cut(PutFault::Failed) => 4,
         RunEnd::Cut(PutFault::NoMemory) => 5,

@@ -11,7 +11,8 @@ ghost use Rattle.flicker_cli.specs.declared.words.Command.{Command as CommandVie
 ghost use Rattle.flicker_cli.specs.Commands.{command};
 ghost use Rattle.flicker_cli.specs.Calls.{AnsweredTwice, CallRan, ScriptRan};
 ghost use Rattle.flicker_cli.specs.Room.{wants_room};
-ghost use Rattle.flicker_cli.specs.Texts.{IsText, end_on};
+ghost use Rattle.flicker_cli.specs.Texts.{IsText, IsTextStatus, IsDenied, end_on};
+ghost use Rattle.flicker_cli.specs.Messages.{status_of};
 
 use crate::fault::Fault;
 use crate::finished::Finished;
@@ -45,12 +46,12 @@ pub fn flicker<S: Source, K: Sink, E: Sink>(
     // Memory holds the spans that are handed back.
     ensures held { HoldsSpans result.board.memory.marks result.spans }
 
-    // Status 0, 1 or 2: the end is that of the words and the bytes taken, whatever follows these.
-    ensures text { result.status ≤ 2 → IsText (command (map string_bytes words.now)) result.status
+    // Status 0, 1, 2 or 6: the end is that of the words and the bytes taken, whatever follows these.
+    ensures text { IsTextStatus result.status → IsText (command (map string_bytes words.now)) result.status
         (intake S.Source source.old source.new) (output E.Sink err.old err.new) }
 
     // There is no other status, and each has its cause.
-    ensures known { result.status ≤ 5 }
+    ensures known { result.status ≤ 6 }
     ensures usage { result.status ≡ 2 → command (map string_bytes words.now) ≡ None }
     ensures no_command { command (map string_bytes words.now) ≡ None
         → (result.status ≡ 2) ⊎ (result.status ≡ 4) ⊎ (result.status ≡ 5) }
@@ -59,10 +60,15 @@ pub fn flicker<S: Source, K: Sink, E: Sink>(
     ensures write { result.status ≡ 4
         → Rose (K.fault_count out.old) (K.fault_count out.new) ⊎ Rose (E.fault_count err.old) (E.fault_count err.new) }
 
-    // A source that is of its command's form is done to its end, unless a fault comes or memory runs out.
+    ensures denied { result.status ≡ 6
+        → IsDenied (command (map string_bytes words.now)) (intake S.Source source.old source.new) }
+
+    // The status is that of the whole source, unless a fault comes or memory runs out: 0 where it is of its command's form,
+    // 1 where it is not, and 6 where it is a line of `verify` whose quote is another.
     ensures complete { (task : CommandView) → command (map string_bytes words.now) ≡ Some task
-        → (content : List ℕ) → S.left source.old ≡ Some content → end_on (Some task) content true ≡ RunEnd.Done
-        → (result.status ≡ 0) ⊎ (result.status ≡ 5) ⊎ Rose (S.fault_count source.old) (S.fault_count source.new)
+        → (content : List ℕ) → S.left source.old ≡ Some content
+        → (result.status ≡ status_of (end_on (Some task) content true)) ⊎ (result.status ≡ 5)
+        ⊎ Rose (S.fault_count source.old) (S.fault_count source.new)
         ⊎ Rose (K.fault_count out.old) (K.fault_count out.new) ⊎ Rose (E.fault_count err.old) (E.fault_count err.new) }
 {
     let mut room = Bytes::new(alloc);

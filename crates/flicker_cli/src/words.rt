@@ -25,6 +25,8 @@ fn word_command(word: &str) -> Option<Command>
         Some(Command::Filter(Filter::Dis))
     } else if word == "measure" {
         Some(Command::Filter(Filter::Measure))
+    } else if word == "verify" {
+        Some(Command::Filter(Filter::Verify))
     } else {
         None
     }

@@ -5,7 +5,7 @@ use Rattle.std.specs.List.{slice_get}
 use Rattle.std.proofs.lemmas.List.{take_more}
 use Rattle.std.proofs.lemmas.Option.{slice_get_within, get_or_from_slice_get}
 use Rattle.tpm_state.specs.Chain.{value, extended_value}
-use Rattle.quote_check.specs.Sessions.{pal_text, running_chain}
+use Rattle.tpm_state.specs.Sessions.{pal_text, running_chain}
 use Rattle.quote_check.proofs.Chains.{running-more}
 use Rattle.script_text.specs.Lines.{content, words}
 use Rattle.script_text.specs.Verify.{Claim, claim_in, verify_reading}

@@ -13,8 +13,8 @@ use Rattle.pal_asm.specs.Lines.{lines}
 use Rattle.pal_asm.specs.Statements.{most_code}
 use Rattle.pal_asm.specs.Assembling.{code_of, line_alone, first_tokens}
 use Rattle.pal_asm.specs.Listing.{Lists}
-use Rattle.quote_check.specs.Sessions.{Session, session_chain}
-use Rattle.quote_check.specs.Quotes.{quote_of}
+use Rattle.tpm_state.specs.Sessions.{Session, session_chain}
+use Rattle.flk_hmac.specs.Quotes.{quote_of}
 use Rattle.script_text.specs.Lines.{is_line_end, content, words}
 use Rattle.script_text.specs.Verify.{Claim, verify_reading}
 use Rattle.flk_filters.specs.declared.input.TheConstants.{MOST_INPUT}

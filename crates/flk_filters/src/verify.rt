@@ -1,7 +1,7 @@
 // From a line that describes a session to whether a quote is that of the session.
 ghost use Rattle.std.specs.Prelude.{◌≡◌, codes, IfOk};
 ghost use Rattle.tpm_state.specs.Chain.{value};
-ghost use Rattle.quote_check.specs.Sessions.{running_chain};
+ghost use Rattle.tpm_state.specs.Sessions.{running_chain};
 ghost use Rattle.script_text.specs.Verify.{claim_of};
 ghost use Rattle.flk_filters.specs.Filters.{without_line_end, is_true};
 ghost use Rattle.flk_filters.specs.Seen.{GivesText};

@@ -1,6 +1,6 @@
 use Rattle.std.proofs.Common.{List, ℕ, sym, ap, ◌∙◌}
 use Rattle.tpm_state.specs.Chain.{extended_value}
-use Rattle.quote_check.specs.Sessions.{pal_text}
+use Rattle.tpm_state.specs.Sessions.{pal_text}
 use Rattle.flk_filters.proofs.VerdictLemmas.{extended_more}
 use Rattle.flk_filters.proofs.verify.check_of.Goals as goal
 

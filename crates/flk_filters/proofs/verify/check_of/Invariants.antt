@@ -1,6 +1,6 @@
 use Rattle.std.proofs.Common.{◌≡◌, take}
 use Rattle.tpm_state.specs.Chain.{value}
-use Rattle.quote_check.specs.Sessions.{running_chain}
+use Rattle.tpm_state.specs.Sessions.{running_chain}
 use Rattle.flk_filters.proofs.verify.check_of.Given as goal
 
 -- the code has extended the register by the texts so far
