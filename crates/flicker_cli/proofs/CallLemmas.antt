@@ -23,14 +23,15 @@ use Rattle.flk_run.specs.Platform.{Platform, ListPlatform, DigestPlatform, platf
 use Rattle.flk_run.specs.declared.disk.SimDisk.{SimDisk}
 use Rattle.flk_run.specs.Parts.{Experiment, platform_of, known_if, platform}
 use Rattle.flk_run.proofs.AgreementLemmas.{run_from}
-use Rattle.flk_run.specs.Runs.{Ran, AllDone}
+use Rattle.flk_run.specs.Runs.{Ran, AllDone, bad_in}
 use Rattle.flk_base.proofs.TakenLemmas.{the_end, says_end}
 use Rattle.flk_filters.specs.declared.fault.BadInput.{BadInput}
-use Rattle.flk_filters.specs.declared.fault.BadInput.TheVariants.{TooLong, Hex, Assembly, NotImage, VerifyLine, Denied}
+use Rattle.flk_filters.specs.declared.fault.BadInput.TheVariants.{TooLong, Denied}
 use Rattle.flk_filters.specs.declared.filter.Filter.{Filter as Which}
 use Rattle.flk_filters.specs.declared.filter.Filter.TheVariants.{Asm, Dis, Measure, Verify}
 use Rattle.flk_filters.specs.Filters.{most_input, fault_in}
 use Rattle.flk_filters.specs.Inputs.{IsInput, FilterRan, Filtered, Refused}
+use Rattle.flicker_cli.proofs.DenialLemmas.{only_verify, denied_claim}
 use Rattle.flicker_cli.specs.declared.words.Command.{Command}
 use Rattle.flicker_cli.specs.declared.words.Command.TheVariants.{Run, Filter}
 use Rattle.flicker_cli.specs.declared.fault.Fault.{Fault}
@@ -48,6 +49,7 @@ pub record Judged (task : Option Command) (end : RunEnd Fault) (before now : Opt
   pub takes : Takes before now taken ended
   pub settled : IsSettled (end_on task) taken ended end
   pub read : end ≡ Done → ended ≡ true
+  pub denied : end ≡ Bad (Input Denied) → ended ≡ true
 
 -- words that are no command
 judged_words : (before now : Option (List ℕ)) → now ≡ before → Judged None (Bad Words) before now
@@ -57,7 +59,13 @@ judged_words before now same = record {
   takes = record { consumed = subst (λ o. Consumes before o []) (sym same) (Consumes-nil before); end = says_end false now (λ seen. absurd (cc)) };
   settled = record { is = refl; stays = λ more ends. refl };
   read = λ done. absurd (cc);
+  denied = λ one. absurd (cc);
 }
+
+-- no script is denied
+never_denied : (bad : Option ScriptFault) → script_end bad ≡ Bad (Input Denied) → ⊥
+never_denied None is = cc
+never_denied (Some first) is = cc
 
 -- a script
 judged_script : {H M : Type 0} (R : Rules H M) (source source' out out' : Option (List ℕ)) (old new : Option (Platform H M)) (bad : Option ScriptFault) → AllDone R source source' out out' old new bad
@@ -68,6 +76,7 @@ judged_script R source source' out out' old new bad d none = record {
   takes = d.takes;
   settled = record { is = ap script_end d.judged.is; stays = λ more ends. ap script_end (d.judged.stays more ends) };
   read = λ done. d.read (none done);
+  denied = λ one. absurd (never_denied bad one);
 }
 
 -- an input with more bytes than it may have, however many more
@@ -94,6 +103,13 @@ all_read which taken ended input good = elim input.whole [
   | inr long ↦ let e : None ≡ Some TooLong = sym good ∙ too_long which taken (omega (arith, long)) in cc
 ]
 
+-- so is an input that is denied
+denied_read : (which : Which) (taken : List ℕ) (ended : Bool) (bad : BadInput) → IsInput taken ended → fault_in which taken ≡ Some bad → bad ≡ Denied → ended ≡ true
+denied_read which taken ended bad input is denied = elim input.whole [
+  | inl end ↦ end
+  | inr long ↦ let e : Some bad ≡ Some TooLong = sym is ∙ too_long which taken (omega (arith, long)) in cc
+]
+
 judged_filtered : (which : Which) (source source' out out' : Option (List ℕ)) → Filtered which source source' out out' → Judged (Some (Filter which)) Done source source'
 judged_filtered which source source' out out' d = record {
   taken = d.taken;
@@ -101,6 +117,7 @@ judged_filtered which source source' out out' d = record {
   takes = d.takes.takes;
   settled = settled_input which d.taken d.takes.ended None d.takes.input d.makes.good;
   read = λ done. all_read which d.taken d.takes.ended d.takes.input d.makes.good;
+  denied = λ one. absurd (cc);
 }
 
 judged_refused : (which : Which) (source source' out out' : Option (List ℕ)) (bad : BadInput) → Refused which source source' out out' bad → Judged (Some (Filter which)) (Bad (Input bad)) source source'
@@ -110,6 +127,7 @@ judged_refused which source source' out out' bad d = record {
   takes = d.takes.takes;
   settled = settled_input which d.taken d.takes.ended (Some bad) d.takes.input d.fault;
   read = λ done. absurd (cc);
+  denied = λ one. denied_read which d.taken d.takes.ended bad d.takes.input d.fault (let same : bad ≡ Denied = cc in same);
 }
 
 -- ---- each end
@@ -358,9 +376,29 @@ module _ {H M : Type 0} (R : Rules H M) (source : Intake) (out err : Output) (ol
   complete_call task content (Cut put.NoMemory) None ran caused said known = inr (inl refl)
   complete_call task content NoMemory None ran caused said known = inr (inl refl)
 
+  -- a call that was denied
+  denied_judged : (task : Option Command) → Judged task (Bad (Input Denied)) source.old.left source.new.left → IsDenied task source
+  denied_judged None j = absurd (let is : Bad Words ≡ Bad (Input Denied) = j.settled.is in cc)
+  denied_judged (Some Run) j = absurd (never_denied (bad_in j.taken j.ended) j.settled.is)
+  denied_judged (Some (Filter which)) j =
+      let fault : fault_in which j.taken ≡ Some Denied = fault_ends (fault_in which j.taken) j.settled.is in
+      let verify : which ≡ Verify = only_verify which j.taken fault in
+      let told = denied_claim j.taken (subst (λ (w : Which). fault_in w j.taken ≡ Some Denied) verify fault) in
+      record {
+        taken = j.taken;
+        takes = subst (Takes source.old.left source.new.left j.taken) (j.denied refl) j.takes;
+        verify = ap (λ (w : Which). Some (Filter w)) verify;
+        claim = told.0;
+        read = told.1;
+        denied = told.2;
+      } where
+        fault_ends : (fault : Option BadInput) → input_end fault ≡ Bad (Input Denied) → fault ≡ Some Denied
+        fault_ends None is = absurd (cc)
+        fault_ends (Some bad) is = let same : bad ≡ Denied = cc in rw same refl
+
   -- a call whose status is 6
   pub denied_call : (task : Option Command) (status : ℕ) → Answered R task status source out err old new → status ≡ 6 → IsDenied task source
   denied_call task status a six =
       let is : a.end ≡ Bad (Input Denied) = six_after a.end a.cut (sym a.answer ∙ six) in
       let j = judged_call R source out old new task a.end (subst IsTextEnd (sym is) tt) a.ran in
-      denied_judged task source.old.left source.new.left source (subst (λ (e : RunEnd Fault). Judged task e source.old.left source.new.left) is j)
+      denied_judged task (subst (λ (e : RunEnd Fault). Judged task e source.old.left source.new.left) is j)

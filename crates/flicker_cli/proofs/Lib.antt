@@ -1,2 +1,3 @@
+mod DenialLemmas
 pub mod CallLemmas
 pub mod MessageLemmas

@@ -1,4 +1,3 @@
-use Rattle.std.specs.Prelude.{[]}
 use Rattle.std.specs.FinMap.{empty}
 use Rattle.machine_memory.specs.HostMemory.{is_untaken}
 use Rattle.flk_run.specs.Parts.{platform_of, known_if}
