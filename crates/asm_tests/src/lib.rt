@@ -22,3 +22,5 @@ mod spellings;
 mod texts;
 #[cfg(test)]
 mod vectors;
+#[cfg(test)]
+mod verify;
