@@ -222,9 +222,9 @@ const ENDS: &[(&str, &str)] = &[
 ];
 
 fn is_end(alloc: Global, end: &str, quote: &str) -> bool {
-    let mut words = BASE;
-    words[1] = quote;
-    words[5] = end;
+    let words = [
+        BASE[0], quote, BASE[2], BASE[3], BASE[4], end, BASE[6], BASE[7], BASE[8],
+    ];
     says(alloc, "", &words, "", Said::Yes)
 }
 
