@@ -5,7 +5,6 @@ use Rattle.flk_base.specs.Plan.{Plan, Return, Ask, run}
 use Rattle.flk_base.specs.Stop.{Limit, Fused, spent, ask_if, limited, then_fused, end_of}
 use Rattle.flk_base.specs.StopLaws.{fused-bind}
 use Rattle.i386_profile.specs.declared.cpu.Cpu.{Cpu}
-use Rattle.i386_profile.specs.Effects.{state}
 use Rattle.slb_image.specs.Fields.{image_of}
 use Rattle.machine_memory.specs.Contents.{Contents}
 use Rattle.machine_memory.specs.Writes.{part, written}
@@ -19,9 +18,9 @@ use Rattle.late_launch.specs.Ends.{closing, extend_each}
 use Rattle.late_launch.specs.States.{LaunchedParts, ClosedParts, image_in, session_device, lost}
 use Rattle.late_launch.proofs.Apart.{part-written}
 use Rattle.late_launch.specs.Answers.{close_answer}
-use Rattle.slb_core.specs.Pal.{PalEnd, outside}
-use Rattle.slb_core.specs.Reports.{count_of, AreOutputs, PalEnds, IsLater}
-use Rattle.slb_core.specs.Sessions.{first_outside, inputs_in, first_registers, permits_of, setting_of, begun, runs, runs_image, closes, serving, serve_answer, LeavesWrites, CountsOutputs}
+use Rattle.slb_core.specs.Pal.{PalEnd}
+use Rattle.slb_core.specs.Reports.{count_of, AreOutputs, PalEnds, IsLater, start_in}
+use Rattle.slb_core.specs.Sessions.{first_outside, inputs_in, first_registers, setting_of, begun, runs, runs_image, closes, serving, serve_answer, LeavesWrites, CountsOutputs}
 use Rattle.slb_core.specs.Spans.{around_with}
 use Rattle.slb_core.specs.declared.pal.Ended.{Ended}
 
@@ -148,12 +147,13 @@ taken_back region inputs count long few whole =
     part-written region 57344 count inputs long (omega arith)
 
 -- what runs in a session that began so
-pub same_run : (launched now : LaunchedParts) (count budget : ℕ) (job : Bool) (start : Cpu) (writes left : List Armed)
+pub same_run : (launched now : LaunchedParts) (count budget : ℕ) (job : Bool) (start : Cpu) (writes left : List Armed) (inputs : List ℕ)
     → now ≡ begun launched count (first_outside (setting_of launched) writes) → left ≡ (first_outside (setting_of launched) writes).writes
     → job ≡ (image_of (image_in launched.region)).job → budget ≡ (image_of (image_in launched.region)).budget → start ≡ first_registers launched.start count
-    → on_device (runs job budget (permits_of now) (state start now.region) (outside now.around.bytes left)) (session_device now)
+    → inputs ≡ inputs_in (setting_of launched) count (first_outside (setting_of launched) writes)
+    → on_device (runs job (start_in now start budget left) inputs) (session_device now)
     ≡ on_device (runs_image (image_of (image_in launched.region)) (setting_of launched) count (first_outside (setting_of launched) writes)) (session_device launched)
-same_run launched now count budget job start writes left n l j b s = rw (n, l, j, b, s) refl
+same_run launched now count budget job start writes left inputs n l j b s i = rw (n, l, j, b, s, i) refl
 
 -- the whole plan, by what runs first
 pub serving_is : (launched : LaunchedParts) (count : ℕ) (nonce : List ℕ) (writes : List Armed)
@@ -166,12 +166,13 @@ serving_is launched count nonce writes =
 
 -- ---- the session as a whole, from what its beginning, its run and its close ensure
 
-module _ (launched now after : LaunchedParts) (count budget : ℕ) (job : Bool) (start : Cpu) (nonce : List ℕ) (writes left after_left : List Armed) (outputs : List ℕ)
+module _ (launched now after : LaunchedParts) (count budget : ℕ) (job : Bool) (start : Cpu) (nonce : List ℕ) (writes left after_left : List Armed) (inputs outputs : List ℕ)
     (n : now ≡ begun launched count (first_outside (setting_of launched) writes)) (l : left ≡ (first_outside (setting_of launched) writes).writes)
-    (j : job ≡ (image_of (image_in launched.region)).job) (b : budget ≡ (image_of (image_in launched.region)).budget) (s : start ≡ first_registers launched.start count) where
+    (j : job ≡ (image_of (image_in launched.region)).job) (b : budget ≡ (image_of (image_in launched.region)).budget) (s : start ≡ first_registers launched.start count)
+    (i : inputs ≡ inputs_in (setting_of launched) count (first_outside (setting_of launched) writes)) where
   -- what was run, as the code says it
   abbrev pub ran : Fused DigestDevice × Option PalEnd
-  ran = on_device (runs job budget (permits_of now) (state start now.region) (outside now.around.bytes left)) (session_device now)
+  ran = on_device (runs job (start_in now start budget left) inputs) (session_device now)
 
   -- and as the session does
   abbrev image_plan : Plan Command Reply PalEnd
@@ -184,7 +185,7 @@ module _ (launched now after : LaunchedParts) (count budget : ℕ) (job : Bool) 
   taken = inputs_in (setting_of launched) count (first_outside (setting_of launched) writes)
 
   so_ended : (answer : Result Ended PowerLost) → PalEnds ran now after after_left outputs answer → PalEnds image_ran now after after_left outputs answer
-  so_ended answer e = subst (λ (x : Fused DigestDevice × Option PalEnd). PalEnds x now after after_left outputs answer) (same_run launched now count budget job start writes left n l j b s) e
+  so_ended answer e = subst (λ (x : Fused DigestDevice × Option PalEnd). PalEnds x now after after_left outputs answer) (same_run launched now count budget job start writes left inputs n l j b s i) e
 
   abbrev whole : Fused DigestDevice × Option PalEnd
   whole = on_device (serving (setting_of launched) count nonce writes) (session_device launched)
@@ -208,10 +209,10 @@ module _ (launched now after : LaunchedParts) (count budget : ℕ) (job : Bool) 
       subst (λ (x : Fused DigestDevice × Option PalEnd). LeavesWrites x after_left) (sym (serving_is launched count nonce writes))
       (lost_leaves launched now after since after_left outputs (closes taken nonce) image_ran after_left (so_ended (Err power_lost) e))
 
-  pub whole_done : (inputs given : List ℕ) (ended : Ended) → PalEnds ran now after after_left outputs (Ok ended) → inputs ≡ taken → given ≡ take (count_of ended.end) outputs
+  pub whole_done : (given : List ℕ) (ended : Ended) → PalEnds ran now after after_left outputs (Ok ended) → given ≡ take (count_of ended.end) outputs
       → close_answer after ended.end ended.turns given (on_device (extend_each (closing inputs given ended.end nonce)) (session_device after)) ≡ serve_answer launched whole
-  whole_done inputs given ended e inputs_are given_are =
-      serve_done launched now after since after_left outputs nonce inputs taken given ended.end ended.turns image_ran (so_ended (Ok ended) e) inputs_are given_are
+  whole_done given ended e given_are =
+      serve_done launched now after since after_left outputs nonce inputs taken given ended.end ended.turns image_ran (so_ended (Ok ended) e) i given_are
       ∙ ap (serve_answer launched) (sym (serving_is launched count nonce writes))
 
   pub whole_done_leaves : (ended : Ended) → PalEnds ran now after after_left outputs (Ok ended) → LeavesWrites whole after_left

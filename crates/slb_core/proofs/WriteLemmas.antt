@@ -1,5 +1,5 @@
 -- Device writes over all the turns of a session.
-use Rattle.std.proofs.Common.{◌≡◌, ◌⊎◌, ℕ, zero, suc, ◌+◌, ◌-◌, ◌<◌, ◌≤◌, List, [], ◌∷◌, length, slice_get, map, sym, refl, ap, ◌∙◌, inl, inr, arith, add-one, Bool, true, false, Option, Some, None}
+use Rattle.std.proofs.Common.{◌≡◌, ◌⊎◌, ℕ, zero, suc, ◌+◌, ◌-◌, ◌<◌, ◌≤◌, List, [], ◌∷◌, length, slice_get, map, sym, refl, ap, ◌∙◌, inl, inr, arith, add-one, Bool, true, false, Option, Some, None, Result, Ok, Err}
 use Rattle.std.specs.Prelude.{filter, IfSome}
 use Rattle.std.proofs.lemmas.Bool.{cases_lt, cases_eq, cases_Bool, both_ways, le-leb, lt-leb, eq-eqb, ne_eqb}
 use Rattle.std.proofs.lemmas.List.Sums.{fold-append}
@@ -14,11 +14,22 @@ use Rattle.machine_memory.specs.DeviceWrites.{may_write}
 use Rattle.machine_memory.specs.ArmedWrites.{Armed, is_due}
 use Rattle.machine_memory.proofs.Pieces.{writes-written, written-nothing}
 use Rattle.machine_memory.proofs.DeviceLemmas.{may_write-past}
+use Rattle.tpm_state.specs.Refusals.Create as creates
+use Rattle.tpm_state.specs.Refusals.Increment as increments
+use Rattle.seal_device.specs.Blobs.{blob_counter}
 use Rattle.seal_device.specs.Commands.{Reply}
+use Rattle.seal_device.specs.Refusals.Seal as seals
+use Rattle.seal_device.specs.Refusals.Unseal as unseals
+use Rattle.late_launch.specs.declared.ends.End.{End}
+use Rattle.late_launch.specs.declared.ends.End.TheVariants.{Done, Fault, Budget, Refused}
 use Rattle.late_launch.specs.Ends.{closing, extend_each}
 use Rattle.late_launch.specs.States.{image_in}
 use Rattle.slb_core.specs.Services.{Next, Over, turn}
-use Rattle.slb_core.specs.Pal.{Permits, Outside, PalEnd, outside, after_write, ended_in, after_writes, followed, pal}
+use Rattle.slb_core.specs.Pal.{Permits, Outside, CodeStart, PalEnd, CodeEnd, outside, after_write, ended_in, after_writes, followed, pal}
+use Rattle.slb_core.specs.declared.job_inputs.Mode.{Mode}
+use Rattle.slb_core.specs.declared.job_inputs.Mode.TheVariants as modes
+use Rattle.slb_core.specs.JobInputs.{Asked, asked_of}
+use Rattle.slb_core.specs.Jobs.{with_kept, sealed_end, seals_after, runs_with, born, steps_from, steps, committed, commits, probed, in_mode, does_asked}
 use Rattle.slb_core.specs.Sessions.{Setting, first_outside, inputs_in, first_state, runs, runs_image, closes, serving}
 use Rattle.slb_core.specs.Resume.{writes_until, after_each, ended_until, AreDoneUntil}
 
@@ -29,16 +40,16 @@ abbrev pub ReturnsOnly : {C : Type 0} {Reply : C → Type 0} {X : Type 0} → (X
 ReturnsOnly Fact (Return x) = Fact x
 ReturnsOnly {Reply = Reply} Fact (Ask c next) = (reply : Reply c) → ReturnsOnly Fact (next reply)
 
-only_bind : {C : Type 0} {Reply : C → Type 0} {X Y : Type 0} (One : X → Type 0) (Other : Y → Type 0) (p : Plan C Reply X) (f : X → Plan C Reply Y)
+pub only_bind : {C : Type 0} {Reply : C → Type 0} {X Y : Type 0} (One : X → Type 0) (Other : Y → Type 0) (p : Plan C Reply X) (f : X → Plan C Reply Y)
     → ReturnsOnly One p → ((x : X) → One x → ReturnsOnly Other (f x)) → ReturnsOnly Other (p >>= f)
 only_bind One Other (Return x) f only then_only = then_only x only
 only_bind One Other (Ask c next) f only then_only = λ reply. only_bind One Other (next reply) f (only reply) then_only
 
 -- a fact of everything
-abbrev Any : {X : Type 0} → X → Type 0
+abbrev pub Any : {X : Type 0} → X → Type 0
 Any x = Unit {0}
 
-only_any : {C : Type 0} {Reply : C → Type 0} {X : Type 0} (p : Plan C Reply X) → ReturnsOnly Any p
+pub only_any : {C : Type 0} {Reply : C → Type 0} {X : Type 0} (p : Plan C Reply X) → ReturnsOnly Any p
 only_any (Return x) = tt
 only_any (Ask c next) = λ reply. only_any (next reply)
 
@@ -150,20 +161,87 @@ module _ (permits : Permits) (bytes : List ℕ) (writes : List Armed) where
   abbrev pub EndsSo : PalEnd → Type 0
   EndsSo ended = AreDoneUntil permits bytes writes ended.turns ended.outside
 
-  pal_only : (more last : ℕ) (s : State) (o : Outside) → AreDoneUntil permits bytes writes last o → ReturnsOnly EndsSo (pal permits more last s o)
-  pal_only zero last s o done = done
-  pal_only (suc more) last s o done =
+  abbrev CodeEndsSo : CodeEnd → Type 0
+  CodeEndsSo code = EndsSo code.ended
+
+  pal_only : (job : Bool) (more last : ℕ) (s : State) (o : Outside) → AreDoneUntil permits bytes writes last o → ReturnsOnly CodeEndsSo (pal job permits more last s o)
+  pal_only job zero last s o done = done
+  pal_only job (suc more) last s o done =
       let moved : AreDoneUntil permits bytes writes (last + 1) (after_writes permits (last + 1) o) = rw add-one (done_more permits bytes writes last o done) in
-      only_bind Any EndsSo (turn s) (followed (last + 1) (after_writes permits (last + 1) o) (λ next. pal permits more (last + 1) next (after_writes permits (last + 1) o)))
-      (only_any (turn s))
-      (λ end any. elim end as (λ e. ReturnsOnly EndsSo (followed (last + 1) (after_writes permits (last + 1) o) (λ next. pal permits more (last + 1) next (after_writes permits (last + 1) o)) e)) [
-        | Next next ↦ pal_only more (last + 1) next (after_writes permits (last + 1) o) moved
-        | Over end outputs ↦ moved
+      only_bind Any CodeEndsSo (turn job s) (followed (last + 1) (after_writes permits (last + 1) o) (λ next. pal job permits more (last + 1) next (after_writes permits (last + 1) o)))
+      (only_any (turn job s))
+      (λ end any. elim end as (λ e. ReturnsOnly CodeEndsSo (followed (last + 1) (after_writes permits (last + 1) o) (λ next. pal job permits more (last + 1) next (after_writes permits (last + 1) o)) e)) [
+        | Next next ↦ pal_only job more (last + 1) next (after_writes permits (last + 1) o) moved
+        | Over end outputs kept ↦ moved
       ])
 
-  runs_only : (job : Bool) (budget : ℕ) (s : State) → ReturnsOnly EndsSo (runs job budget permits s (after_writes permits 0 (outside bytes writes)))
-  runs_only true budget s = done_first permits bytes writes
-  runs_only false budget s = pal_only budget 0 s (after_writes permits 0 (outside bytes writes)) (done_first permits bytes writes)
+  -- what is outside when the code begins
+  abbrev first : Outside
+  first = after_writes permits 0 (outside bytes writes)
+
+  abbrev begins : ℕ → State → CodeStart
+  begins budget s = record { budget = budget; permits = permits; state = s; outside = first }
+
+  all_first : AreDoneUntil permits bytes writes 0 first
+  all_first = done_first permits bytes writes
+
+  sealed_only : (ended : PalEnd) (reply : Result (List ℕ) seals.Refusal) → EndsSo ended → EndsSo (sealed_end ended reply)
+  sealed_only ended (Ok blob) so = so
+  sealed_only ended (Err refusal) so = so
+
+  seals_only : (end : End) (id : ℕ) (ahead : Bool) (code : CodeEnd) → EndsSo code.ended → ReturnsOnly EndsSo (seals_after end id ahead code)
+  seals_only (Done n) id ahead code so = λ reply. sealed_only code.ended reply so
+  seals_only (Fault kind) id ahead code so = so
+  seals_only Budget id ahead code so = so
+  seals_only (Refused why) id ahead code so = so
+
+  runs_with_only : (budget : ℕ) (s : State) (asked : Asked) (kept : List ℕ) (id : ℕ) (ahead : Bool) → ReturnsOnly EndsSo (runs_with (begins budget s) asked kept id ahead)
+  runs_with_only budget s asked kept id ahead =
+      only_bind CodeEndsSo EndsSo (pal true permits budget 0 (with_kept s asked kept) first) (λ code. seals_after code.ended.end id ahead code)
+      (pal_only true budget 0 (with_kept s asked kept) first all_first)
+      (λ code so. seals_only code.ended.end id ahead code so)
+
+  born_only : (budget : ℕ) (s : State) (asked : Asked) (reply : Result ℕ creates.Refusal) → ReturnsOnly EndsSo (born (begins budget s) asked reply)
+  born_only budget s asked (Ok id) = runs_with_only budget s asked [] id false
+  born_only budget s asked (Err refusal) = all_first
+
+  steps_from_only : (budget : ℕ) (s : State) (asked : Asked) (kept : List ℕ) (counter : Option ℕ) → ReturnsOnly EndsSo (steps_from (begins budget s) asked kept counter)
+  steps_from_only budget s asked kept (Some id) = runs_with_only budget s asked kept id true
+  steps_from_only budget s asked kept None = all_first
+
+  steps_only : (budget : ℕ) (s : State) (asked : Asked) (reply : Result (List ℕ) unseals.Refusal) → ReturnsOnly EndsSo (steps (begins budget s) asked reply)
+  steps_only budget s asked (Ok kept) = steps_from_only budget s asked kept (blob_counter asked.blob)
+  steps_only budget s asked (Err refusal) = all_first
+
+  committed_only : (reply : Result ℕ increments.Refusal) → EndsSo (committed first reply)
+  committed_only (Ok value) = all_first
+  committed_only (Err refusal) = all_first
+
+  commits_only : (reply : Result ℕ unseals.Refusal) → ReturnsOnly EndsSo (commits first reply)
+  commits_only (Ok id) = λ reply. committed_only reply
+  commits_only (Err refusal) = all_first
+
+  probed_only : (counter : Option ℕ) (reply : Result (List ℕ) unseals.Refusal) → EndsSo (probed first counter reply)
+  probed_only (Some id) (Ok kept) = all_first
+  probed_only None (Ok kept) = all_first
+  probed_only (Some id) (Err refusal) = all_first
+  probed_only None (Err refusal) = all_first
+
+  in_mode_only : (mode : Mode) (budget : ℕ) (s : State) (asked : Asked) → ReturnsOnly EndsSo (in_mode mode (begins budget s) asked)
+  in_mode_only modes.New budget s asked = λ reply. born_only budget s asked reply
+  in_mode_only modes.Step budget s asked = λ reply. steps_only budget s asked reply
+  in_mode_only modes.Commit budget s asked = λ reply. commits_only reply
+  in_mode_only modes.Probe budget s asked = λ reply. probed_only (blob_counter asked.blob) reply
+
+  asked_only : (budget : ℕ) (s : State) (asked : Option Asked) → ReturnsOnly EndsSo (does_asked (begins budget s) asked)
+  asked_only budget s None = all_first
+  asked_only budget s (Some asked) = in_mode_only asked.mode budget s asked
+
+  runs_only : (job : Bool) (budget : ℕ) (s : State) (inputs : List ℕ) → ReturnsOnly EndsSo (runs job (begins budget s) inputs)
+  runs_only true budget s inputs = asked_only budget s (asked_of inputs)
+  runs_only false budget s inputs =
+      only_bind CodeEndsSo EndsSo (pal false permits budget 0 s first) (λ code. Return code.ended)
+      (pal_only false budget 0 s first all_first) (λ code so. so)
 
   closes_only : (inputs nonce : List ℕ) (ended : PalEnd) → EndsSo ended → ReturnsOnly EndsSo (closes inputs nonce ended)
   closes_only inputs nonce ended so =
@@ -173,7 +251,8 @@ pub serving_only : (setting : Setting) (count : ℕ) (nonce : List ℕ) (writes 
 serving_only setting count nonce writes =
     let Fact : PalEnd → Type 0 = EndsSo setting.permits setting.bytes writes in
     only_bind Fact Fact (runs_image (image_of (image_in setting.region)) setting count (first_outside setting writes)) (closes (inputs_in setting count (first_outside setting writes)) nonce)
-    (runs_only setting.permits setting.bytes writes (image_of (image_in setting.region)).job (image_of (image_in setting.region)).budget (first_state setting count (first_outside setting writes)))
+    (runs_only setting.permits setting.bytes writes (image_of (image_in setting.region)).job (image_of (image_in setting.region)).budget (first_state setting count (first_outside setting writes))
+    (inputs_in setting count (first_outside setting writes)))
     (closes_only setting.permits setting.bytes writes (inputs_in setting count (first_outside setting writes)) nonce)
 
 -- ---- bytes that are the same but for a part

@@ -2,6 +2,8 @@ pub mod Spans
 pub mod Turns
 pub mod Services
 pub mod Pal
+pub mod JobInputs
+pub mod Jobs
 pub mod Reports
 pub mod Sessions
 pub mod Resume

@@ -51,27 +51,43 @@ after_writes permits turn o = record {
   writes = map (ended_in permits turn) o.writes;
 }
 
--- how the code of a session ended: after how many turns, with which outputs, and what is outside then
+-- what code runs with: for how many turns at most, which device writes are permitted, its registers and its region, and
+-- what is outside
+pub record CodeStart : Type 0 where
+  pub budget : ℕ
+  pub permits : Permits
+  pub state : State
+  pub outside : Outside
+
+-- how a session ended, or its code: after how many turns, with which outputs, and what is outside then
 pub record PalEnd : Type 0 where
   pub end : End
   pub turns : ℕ
   pub outputs : List ℕ
   pub outside : Outside
 
--- what follows a turn: the next one, or the end after so many turns
-abbrev pub followed : ℕ → Outside → (State → Plan Command Reply PalEnd) → TurnEnd → Plan Command Reply PalEnd
-followed turns outside next (Next s) = next s
-followed turns outside next (Over end outputs) = Return (record {
-  end = end;
-  turns = turns;
-  outputs = outputs;
-  outside = outside;
-})
+-- how the code of a session ended, and the state that a job is to keep of it
+pub record CodeEnd : Type 0 where
+  pub ended : PalEnd
+  pub kept : List ℕ
 
--- at most so many more turns, after those that are done; each does the device writes of its number first
-abbrev pub pal : Permits → ℕ → ℕ → State → Outside → Plan Command Reply PalEnd
-pal permits zero done s o = Return (record { end = Budget; turns = done; outputs = []; outside = o })
-pal permits (suc more) done s o =
-    turn s
+-- the code's end after so many turns
+abbrev pub code_end : End → ℕ → List ℕ → Outside → List ℕ → CodeEnd
+code_end end turns outputs outside kept = record {
+  ended = record { end = end; turns = turns; outputs = outputs; outside = outside };
+  kept = kept;
+}
+
+-- what follows a turn: the next one, or the end after so many turns
+abbrev pub followed : ℕ → Outside → (State → Plan Command Reply CodeEnd) → TurnEnd → Plan Command Reply CodeEnd
+followed turns outside next (Next s) = next s
+followed turns outside next (Over end outputs kept) = Return (code_end end turns outputs outside kept)
+
+-- the code, a job's or not: at most so many more turns, after those that are done; each does the device writes of its
+-- number first
+abbrev pub pal : Bool → Permits → ℕ → ℕ → State → Outside → Plan Command Reply CodeEnd
+pal job permits zero done s o = Return (code_end Budget done [] o [])
+pal job permits (suc more) done s o =
+    turn job s
     >>= followed (done + 1) (after_writes permits (done + 1) o)
-    (λ next. pal permits more (done + 1) next (after_writes permits (done + 1) o))
+    (λ next. pal job permits more (done + 1) next (after_writes permits (done + 1) o))

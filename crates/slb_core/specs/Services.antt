@@ -1,7 +1,8 @@
 -- What a turn comes to, and the services that launched code calls by `int 0x80`.
-use Rattle.std.specs.Prelude.{ℕ, ◌+◌, ◌-◌, ◌^◌, ◌==◌, nat_le, nat_lt, Bool, true, false, List, [], ◌++◌, length, codes, Option, Some, None, Result, Ok, Err, if◌then◌else◌}
+use Rattle.std.specs.Prelude.{ℕ, ◌+◌, ◌-◌, ◌^◌, ◌==◌, ◌&&◌, nat_le, nat_lt, Bool, true, false, List, [], ◌++◌, length, codes, Option, Some, None, Result, Ok, Err, if◌then◌else◌}
 use Rattle.flk_base.specs.Plan.{Plan, Return, Ask}
 use Rattle.i386_profile.specs.declared.operands.Reg.TheVariants.{Eax, Ecx, Edx, Ebx, Edi}
+use Rattle.i386_profile.specs.declared.cpu.FaultKind.{FaultKind}
 use Rattle.i386_profile.specs.declared.cpu.FaultKind.TheVariants.{Instruction, Segment}
 use Rattle.i386_profile.specs.Flags.{get}
 use Rattle.i386_profile.specs.Effects.{State, Outcome, GoesOn, CallsGate, Faults, with_reg}
@@ -19,19 +20,25 @@ use Rattle.seal_device.specs.Refusals.Random as randoms
 use Rattle.late_launch.specs.declared.ends.End.{End}
 use Rattle.late_launch.specs.declared.ends.End.TheVariants.{Done, Fault}
 use Rattle.slb_core.specs.declared.sealing.CounterAsked.{CounterAsked}
+use Rattle.slb_core.specs.declared.services.Service.{Service}
+use Rattle.slb_core.specs.declared.services.Service.TheVariants as services
 use Rattle.slb_core.specs.Turns.{executed}
 
--- what a turn comes to: the next turn, from this state, or the session's end, with these outputs
+-- what a turn comes to: the next turn, from this state, or the code's end, with these outputs, and with the state that
+-- a job is to keep
 pub data TurnEnd : Type 0 where
   Next : State → TurnEnd
-  Over : (end : End) → (outputs : List ℕ) → TurnEnd
+  Over : (end : End) → (outputs kept : List ℕ) → TurnEnd
 
--- the session ends with this fault, and without outputs
+-- the code ends with this fault, and without outputs
+abbrev pub over_with : FaultKind → TurnEnd
+over_with kind = Over (Fault kind) [] []
+
 abbrev pub fault_segment : TurnEnd
-fault_segment = Over (Fault Segment) []
+fault_segment = over_with Segment
 
 abbrev pub fault_instruction : TurnEnd
-fault_instruction = Over (Fault Instruction) []
+fault_instruction = over_with Instruction
 
 -- how many bytes the segment has: it is the region
 abbrev pub segment_size : ℕ
@@ -59,7 +66,7 @@ longest_outputs = 4096
 abbrev pub to_end : State → TurnEnd
 to_end s =
     if nat_le (get s.cpu Ebx) longest_outputs
-    then Over (Done (get s.cpu Ebx)) (part s.bytes outputs_offset (get s.cpu Ebx))
+    then Over (Done (get s.cpu Ebx)) (part s.bytes outputs_offset (get s.cpu Ebx)) []
     else fault_segment
 
 -- to extend register 17: the text lies at ebx, and has ecx bytes
@@ -224,44 +231,66 @@ to_draw s =
 
 -- ---- the gate of services
 
--- the services, by their numbers
-pub data Service : Type 0 where
-  ToEnd : Service
-  ToExtend : Service
-  ToRead : Service
-  ToSeal : Service
-  ToUnseal : Service
-  ToCreate : Service
-  ToReadCounter : Service
-  ToIncrement : Service
-  ToDraw : Service
-
 -- the service of a number, if it has one
 abbrev pub service_of : ℕ → Option Service
 service_of number =
-    if number == 0 then Some ToEnd
-    else if number == 1 then Some ToExtend
-    else if number == 2 then Some ToRead
-    else if number == 3 then Some ToSeal
-    else if number == 4 then Some ToUnseal
-    else if number == 5 then Some ToCreate
-    else if number == 6 then Some ToReadCounter
-    else if number == 7 then Some ToIncrement
-    else if number == 8 then Some ToDraw
+    if number == 0 then Some services.End
+    else if number == 1 then Some services.Extend
+    else if number == 2 then Some services.ReadRegister
+    else if number == 3 then Some services.Seal
+    else if number == 4 then Some services.Unseal
+    else if number == 5 then Some services.NewCounter
+    else if number == 6 then Some services.ReadCounter
+    else if number == 7 then Some services.Increment
+    else if number == 8 then Some services.Random
     else None
 
 -- what a service comes to
 abbrev pub comes_to : Option Service → State → Plan Command Reply TurnEnd
-comes_to (Some ToEnd) s = Return (to_end s)
-comes_to (Some ToExtend) s = to_extend s
-comes_to (Some ToRead) s = to_read s
-comes_to (Some ToSeal) s = to_seal s
-comes_to (Some ToUnseal) s = to_unseal s
-comes_to (Some ToCreate) s = to_create s
-comes_to (Some ToReadCounter) s = to_read_counter s
-comes_to (Some ToIncrement) s = to_increment s
-comes_to (Some ToDraw) s = to_draw s
+comes_to (Some services.End) s = Return (to_end s)
+comes_to (Some services.Extend) s = to_extend s
+comes_to (Some services.ReadRegister) s = to_read s
+comes_to (Some services.Seal) s = to_seal s
+comes_to (Some services.Unseal) s = to_unseal s
+comes_to (Some services.NewCounter) s = to_create s
+comes_to (Some services.ReadCounter) s = to_read_counter s
+comes_to (Some services.Increment) s = to_increment s
+comes_to (Some services.Random) s = to_draw s
 comes_to None s = Return fault_instruction
+
+-- ---- the services of a job's code
+
+-- the most bytes of outputs that the code of a job may have
+abbrev pub longest_job_outputs : ℕ
+longest_job_outputs = 1024
+
+-- where the state of a job lies in the segment
+abbrev pub kept_offset : ℕ
+kept_offset = 63488
+
+-- to end the code of a job: ebx is how many bytes of outputs there are, and edx how many of state
+unfoldable pub to_keep : State → TurnEnd
+to_keep s =
+    if nat_le (get s.cpu Ebx) longest_job_outputs && nat_le (get s.cpu Edx) longest_sealed
+    then Over (Done (get s.cpu Ebx)) (part s.bytes outputs_offset (get s.cpu Ebx))
+    (part s.bytes kept_offset (get s.cpu Edx))
+    else fault_segment
+
+-- the answer to a service that the code of a job may not call
+abbrev pub not_for_jobs : ℕ
+not_for_jobs = 7
+
+-- what a service comes to that the code of a job calls: it may end, and draw random words
+abbrev pub comes_to_in_job : Option Service → State → Plan Command Reply TurnEnd
+comes_to_in_job (Some services.End) s = Return (to_keep s)
+comes_to_in_job (Some services.Random) s = to_draw s
+comes_to_in_job (Some other) s = Return (Next (answered s not_for_jobs))
+comes_to_in_job None s = Return fault_instruction
+
+-- what a service comes to, by whether a job's code calls it
+abbrev pub served : Bool → Option Service → State → Plan Command Reply TurnEnd
+served false service s = comes_to service s
+served true service s = comes_to_in_job service s
 
 -- ---- turns
 
@@ -270,16 +299,16 @@ abbrev pub service_gate : ℕ
 service_gate = 128
 
 -- what a gate comes to: the service that eax names; there is no other gate
-abbrev pub gate : ℕ → State → Plan Command Reply TurnEnd
-gate number s =
-    if number == service_gate then comes_to (service_of (get s.cpu Eax)) s else Return fault_instruction
+abbrev pub gate : Bool → ℕ → State → Plan Command Reply TurnEnd
+gate job number s =
+    if number == service_gate then served job (service_of (get s.cpu Eax)) s else Return fault_instruction
 
 -- what an instruction comes to
-abbrev pub turned : Outcome → Plan Command Reply TurnEnd
-turned (GoesOn s) = Return (Next s)
-turned (CallsGate number s) = gate number s
-turned (Faults kind) = Return (Over (Fault kind) [])
+abbrev pub turned : Bool → Outcome → Plan Command Reply TurnEnd
+turned job (GoesOn s) = Return (Next s)
+turned job (CallsGate number s) = gate job number s
+turned job (Faults kind) = Return (over_with kind)
 
 -- a turn: the instruction at eip
-abbrev pub turn : State → Plan Command Reply TurnEnd
-turn s = turned (executed s)
+abbrev pub turn : Bool → State → Plan Command Reply TurnEnd
+turn job s = turned job (executed s)

@@ -1,5 +1,5 @@
 -- A session from its launch to its close.
-use Rattle.std.specs.Prelude.{◌≡◌, ◌≤◌, ℕ, length, Bool, true, false, List, [], Option, Some, None, Result, Ok, Err}
+use Rattle.std.specs.Prelude.{◌≡◌, ◌≤◌, ℕ, length, Bool, true, false, List, Option, Some, None, Result, Ok, Err}
 use Rattle.flk_base.specs.Plan.{Plan, Return, ◌>>=◌}
 use Rattle.flk_base.specs.Stop.{Fused}
 use Rattle.i386_profile.specs.declared.cpu.Cpu.{Cpu}
@@ -12,15 +12,15 @@ use Rattle.machine_memory.specs.Writes.{part, written}
 use Rattle.machine_memory.specs.ArmedWrites.{Armed}
 use Rattle.seal_device.specs.Commands.{Command, Reply}
 use Rattle.seal_device.specs.Digests.{DigestDevice}
-use Rattle.late_launch.specs.declared.ends.End.TheVariants.{Refused}
-use Rattle.late_launch.specs.declared.ends.JobRefusal.TheVariants.{Input}
 use Rattle.late_launch.specs.Boards.{DarkParts}
 use Rattle.late_launch.specs.Regions.{input_page, inputs_offset, with_outputs}
 use Rattle.late_launch.specs.Ends.{closing, extend_each}
 use Rattle.late_launch.specs.States.{LaunchedParts, ClosedParts, image_in, lost}
 use Rattle.slb_core.specs.Spans.{around_with}
 use Rattle.slb_core.specs.Services.{outputs_offset, longest_outputs}
-use Rattle.slb_core.specs.Pal.{Permits, Outside, PalEnd, permits_at, outside, after_writes, pal}
+use Rattle.slb_core.specs.Pal.{Permits, Outside, CodeStart, PalEnd, permits_at, outside, after_writes, pal}
+use Rattle.slb_core.specs.JobInputs.{asked_of}
+use Rattle.slb_core.specs.Jobs.{does_asked}
 use Rattle.slb_core.specs.Reports.{count_of}
 
 -- what a session begins with: which device writes are permitted, the address of the input page, the registers,
@@ -52,15 +52,25 @@ first_region setting count o = written setting.region inputs_offset (inputs_in s
 abbrev pub first_state : Setting → ℕ → Outside → State
 first_state setting count o = state (first_registers setting.start count) (first_region setting count o)
 
--- what runs: the code, for as many turns as its budget has; the session of a job is refused
-abbrev pub runs : Bool → ℕ → Permits → State → Outside → Plan Command Reply PalEnd
-runs true budget permits s o = Return (record { end = Refused Input; turns = 0; outputs = []; outside = o })
-runs false budget permits s o = pal permits budget 0 s o
+-- what runs on these inputs: the code, for as many turns as its budget has; of a job what its inputs ask for
+abbrev pub runs : Bool → CodeStart → List ℕ → Plan Command Reply PalEnd
+runs false start inputs =
+    pal false start.permits start.budget 0 start.state start.outside >>= λ code. Return code.ended
+runs true start inputs = does_asked start (asked_of inputs)
+
+-- what the code runs with, by its image
+abbrev pub code_start : Image → Setting → ℕ → Outside → CodeStart
+code_start image setting count o = record {
+  budget = image.budget;
+  permits = setting.permits;
+  state = first_state setting count o;
+  outside = o;
+}
 
 -- what runs by what the image says
 abbrev pub runs_image : Image → Setting → ℕ → Outside → Plan Command Reply PalEnd
 runs_image image setting count o =
-    runs image.job image.budget setting.permits (first_state setting count o) o
+    runs image.job (code_start image setting count o) (inputs_in setting count o)
 
 -- the closing extends of register 17
 abbrev pub closes : List ℕ → List ℕ → PalEnd → Plan Command Reply PalEnd

@@ -6,11 +6,11 @@ ghost use Rattle.late_launch.specs.States.{session_device};
 ghost use Rattle.slb_core.specs.Services.{to_create, to_read_counter, to_increment, to_draw};
 ghost use Rattle.slb_core.specs.Reports.{TurnEnds};
 
-use crate::services::{PAGE_SIZE, Turned};
+use crate::services::{PAGE_SIZE, Turned, fault};
 use crate::spans::{lies_in, write_span};
 use flk_base::PowerLost;
 use i386_profile::{Cpu, FaultKind, Reg};
-use late_launch::{End, Launched};
+use late_launch::Launched;
 use seal_device::{CounterFault, RandomFault};
 
 /// The last number that a counter may be asked for by.
@@ -104,7 +104,7 @@ pub(crate) fn to_draw(
 {
     let at = cpu.regs[Reg::Edi as usize];
     if !lies_in(at, WORD_LEN) {
-        return Ok(Turned::Over(End::Fault(FaultKind::Segment)));
+        return Ok(fault(FaultKind::Segment));
     }
     match session.random() {
         Ok(word) => {

@@ -2,6 +2,8 @@
 #![tactic(auto)]
 
 mod counting;
+mod job_inputs;
+mod jobs;
 mod laws;
 mod pal;
 mod sealing;
@@ -10,5 +12,6 @@ mod serving;
 mod spans;
 mod turn;
 
-pub use laws::device_writes_law;
+pub use job_inputs::Mode;
+pub use laws::{device_writes_law, job_inputs_law, job_outputs_law};
 pub use serving::serve;

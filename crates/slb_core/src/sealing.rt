@@ -9,11 +9,11 @@ ghost use Rattle.slb_core.specs.Services.{counter_asked, handed_with_length, to_
 ghost use Rattle.slb_core.specs.Spans.{with_region};
 ghost use Rattle.slb_core.specs.Reports.{TurnEnds};
 
-use crate::services::{PAGE_SIZE, Turned};
+use crate::services::{PAGE_SIZE, Turned, fault};
 use crate::spans::{lies_in, read_span, write_span};
 use flk_base::PowerLost;
 use i386_profile::{Cpu, FaultKind, Reg};
-use late_launch::{End, Launched};
+use late_launch::Launched;
 use seal_device::{BLOB_ROOM, LONGEST_SEALED, SealFault, UnsealFault, blob_size};
 
 /// How many bytes may be shown as a blob.
@@ -78,7 +78,7 @@ fn to_seal_by(
 {
     let count = cpu.regs[Reg::Ecx as usize] as usize;
     if !lies_in(cpu.regs[Reg::Edi as usize], blob_size(count) as u32) {
-        return Ok(Turned::Over(End::Fault(FaultKind::Segment)));
+        return Ok(fault(FaultKind::Segment));
     }
     let mut bytes = [0; LONGEST_SEALED];
     let bytes = &mut bytes[..count];
@@ -104,7 +104,7 @@ pub(crate) fn to_seal(
 {
     let count = cpu.regs[Reg::Ecx as usize];
     if !lies_in(cpu.regs[Reg::Ebx as usize], count) {
-        return Ok(Turned::Over(End::Fault(FaultKind::Segment)));
+        return Ok(fault(FaultKind::Segment));
     }
     if count as usize > LONGEST_SEALED {
         cpu.regs[Reg::Eax as usize] = SealFault::TooLong as u32;
@@ -131,7 +131,7 @@ pub(crate) fn to_unseal(
 {
     let count = cpu.regs[Reg::Ecx as usize];
     if !lies_in(cpu.regs[Reg::Ebx as usize], count) {
-        return Ok(Turned::Over(End::Fault(FaultKind::Segment)));
+        return Ok(fault(FaultKind::Segment));
     }
     if count as usize > LONGEST_SHOWN {
         cpu.regs[Reg::Eax as usize] = UnsealFault::NotBlob as u32;
@@ -144,7 +144,7 @@ pub(crate) fn to_unseal(
     match session.unseal(blob, &mut bytes) {
         Ok(size) => {
             if !lies_in(cpu.regs[Reg::Edi as usize], size as u32) {
-                return Ok(Turned::Over(End::Fault(FaultKind::Segment)));
+                return Ok(fault(FaultKind::Segment));
             }
             hand_over(session, cpu, &bytes[..size]);
         }

@@ -1,5 +1,5 @@
 //! A session from its launch to its close.
-ghost use Rattle.std.specs.Prelude.{◌≡◌, ◌≤◌, length, take, true};
+ghost use Rattle.std.specs.Prelude.{◌≡◌, ◌≤◌, [], length, take, true, false};
 ghost use Rattle.i386_profile.specs.Effects.{state};
 ghost use Rattle.slb_image.specs.Fields.{image_of};
 ghost use Rattle.machine_memory.specs.Writes.{part};
@@ -9,19 +9,17 @@ ghost use Rattle.late_launch.specs.Regions.{inputs_offset};
 ghost use Rattle.late_launch.specs.States.{has_image, image_in, session_device};
 ghost use Rattle.slb_core.specs.Pal.{outside};
 ghost use Rattle.slb_core.specs.Sessions.{first_outside, inputs_in, first_registers, runs, permits_of, setting_of, serving, serve_answer, begun, LeavesWrites, CountsOutputs};
-ghost use Rattle.slb_core.specs.Reports.{count_of, PalEnds};
+ghost use Rattle.slb_core.specs.Reports.{count_of, start_in, PalEnds};
 ghost use Rattle.slb_core.specs.Resume.{served, ResumesHost};
 
+use crate::jobs::{Start, run_job};
 use crate::pal::{Ended, run};
-use crate::services::{OUTPUTS_OFFSET, PAGE_SIZE};
+use crate::services::{INPUTS_OFFSET, OUTPUTS_OFFSET, PAGE_SIZE};
 use crate::spans::read_span;
 use flk_base::PowerLost;
 use i386_profile::{Cpu, Reg};
-use late_launch::{Closed, Dark, End, JobRefusal, Launched};
+use late_launch::{Closed, Dark, End, Launched};
 use machine_memory::Dma;
-
-/// Where the inputs lie in the region.
-const INPUTS_OFFSET: u32 = 57_344;
 
 /// What the image of a session says of its run: how many turns it may take, and whether it is a job's.
 #[derive(Clone, Copy)]
@@ -67,25 +65,46 @@ fn begin(session: &mut Launched, count: u16, dma: &mut Dma, taken: &mut [u8])
     read_span(session, INPUTS_OFFSET as usize, taken);
 }
 
-/// Runs the code, or refuses the session of a job.
-fn run_or_refuse(
+/// Runs the code of an image that is no job's.
+fn run_code(
     session: &mut Launched,
-    limits: Limits,
-    start: Cpu,
+    start: Start,
     dma: &mut Dma,
     outputs: &mut [u8; PAGE_SIZE],
 ) -> Result<Ended, PowerLost>
     ensures { PalEnds
-        (on_device (runs limits.job limits.budget (permits_of session.old) (state start session.old.region) (outside session.old.around.bytes dma.old)) (session_device session.old))
+        (on_device (runs false (start_in session.old start.cpu start.budget dma.old) []) (session_device session.old))
         session.old session.new dma.new outputs.new result }
 {
-    if limits.job {
-        return Ok(Ended {
-            end: End::Refused(JobRefusal::Input),
-            turns: 0,
-        });
+    match run(session, start.cpu, false, start.budget, dma, outputs) {
+        Err(PowerLost) => return Err(PowerLost),
+        Ok(code) => {
+            return Ok(Ended {
+                end: code.end,
+                turns: code.turns,
+            });
+        }
     }
-    return run(session, start, limits.budget, dma, outputs);
+}
+
+/// Runs the code, or does what the inputs of a job ask for.
+fn run_by(
+    session: &mut Launched,
+    job: bool,
+    start: Start,
+    dma: &mut Dma,
+    inputs: &[u8],
+    outputs: &mut [u8; PAGE_SIZE],
+) -> Result<Ended, PowerLost>
+    requires { length inputs.now ≤ 4096 }
+    ensures { PalEnds
+        (on_device (runs job (start_in session.old start.cpu start.budget dma.old) inputs.now) (session_device session.old))
+        session.old session.new dma.new outputs.new result }
+{
+    if job {
+        return run_job(session, start, dma, inputs, outputs);
+    }
+    return run_code(session, start, dma, outputs);
 }
 
 /// The outputs of an end.
@@ -124,12 +143,15 @@ pub fn serve(
 {
     let mut session = launched;
     let limits = limits_in(&session);
-    let start = first_registers(session.cpu(), inputs);
+    let start = Start {
+        cpu: first_registers(session.cpu(), inputs),
+        budget: limits.budget,
+    };
     let mut page = [0; PAGE_SIZE];
     let taken = &mut page[..inputs as usize];
     begin(&mut session, inputs, dma, taken);
     let mut outputs = [0; PAGE_SIZE];
-    match run_or_refuse(&mut session, limits, start, dma, &mut outputs) {
+    match run_by(&mut session, limits.job, start, dma, taken, &mut outputs) {
         Err(PowerLost) => return Err(session.lost()),
         Ok(ended) => {
             let outputs = outputs_of(ended.end, &outputs);
