@@ -10,6 +10,8 @@ mod events;
 #[cfg(test)]
 mod hosts;
 #[cfg(test)]
+mod job_modes;
+#[cfg(test)]
 mod machine;
 #[cfg(test)]
 mod quoting;
