@@ -3,3 +3,4 @@ pub mod Pieces
 pub mod Filling
 pub mod Resuming
 pub mod Permitted
+pub mod Quiet

@@ -2,3 +2,4 @@ pub mod Sessions
 pub mod Filled
 pub mod Answers
 pub mod Resume
+pub mod Quiet

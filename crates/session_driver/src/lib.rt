@@ -5,4 +5,4 @@ mod driver;
 mod laws;
 
 pub use driver::{SessionEnd, session};
-pub use laws::permitted_writes_law;
+pub use laws::{permitted_writes_law, quiet_session_law};
