@@ -4,3 +4,4 @@ pub mod PowerCycle
 pub mod Calls
 pub mod Simulated
 pub mod Slots
+pub mod Commands

@@ -9,7 +9,7 @@ use Rattle.flk_base.specs.Stop.{Fused, fused, then_fused}
 use Rattle.flk_base.specs.StopLaws.{fused-bind}
 use Rattle.i386_profile.specs.Effects.{State, state}
 use Rattle.slb_image.specs.Fields.{image_of}
-use Rattle.region_pool.specs.Places.{IsPlace, place}
+use Rattle.region_pool.specs.Places.{IsPlace}
 use Rattle.region_pool.proofs.Frames.{slice_get-replicate, same_at_each}
 use Rattle.region_pool.proofs.Search.{free-place, within-place}
 use Rattle.machine_memory.specs.Writes.{written}
@@ -24,22 +24,21 @@ use Rattle.seal_device.specs.Refusals.Seal as seals
 use Rattle.seal_device.specs.Refusals.Unseal as unseals
 use Rattle.late_launch.specs.declared.ends.End.{End}
 use Rattle.late_launch.specs.declared.ends.End.TheVariants.{Done, Fault, Budget, Refused}
-use Rattle.late_launch.specs.Boards.{BoardParts, DarkParts, fused_device}
+use Rattle.late_launch.specs.Boards.{BoardParts, fused_device}
 use Rattle.late_launch.specs.Ends.{closing, extend_each}
 use Rattle.late_launch.specs.States.{image_in}
 use Rattle.late_launch.specs.Regions.{input_page, inputs_offset}
 use Rattle.late_launch.proofs.Apart.{part-written}
 use Rattle.slb_core.specs.Services.{TurnEnd, Next, Over, turn}
-use Rattle.slb_core.specs.Pal.{Permits, Outside, CodeStart, PalEnd, CodeEnd, outside, after_writes, followed, pal}
+use Rattle.slb_core.specs.Pal.{Permits, Outside, CodeStart, PalEnd, CodeEnd, outside, followed, pal}
 use Rattle.slb_core.specs.declared.job_inputs.Mode.{Mode}
 use Rattle.slb_core.specs.declared.job_inputs.Mode.TheVariants as modes
 use Rattle.slb_core.specs.JobInputs.{Asked, asked_of}
 use Rattle.slb_core.specs.Jobs.{with_kept, sealed_end, seals_after, runs_with, born, steps_from, steps, committed, commits, probed, in_mode, does_asked}
-use Rattle.slb_core.specs.Sessions.{Setting, first_outside, inputs_in, first_registers, runs, runs_image, closes, serving}
+use Rattle.slb_core.specs.Sessions.{Setting, first_outside, inputs_in, first_registers, runs, closes, serving}
 use Rattle.slb_core.proofs.WriteLemmas.{EndsSo, serving_only, only_fused}
-use Rattle.session_driver.specs.declared.driver.SessionEnd.{SessionEnd}
-use Rattle.session_driver.specs.Sessions.{area_at, permits_in, setting_in, session_plan, wiped}
-use Rattle.session_driver.specs.Answers.{ran_at, board_after, ended_answer, ended_leaves}
+use Rattle.session_driver.specs.Sessions.{area_at, setting_in, session_plan, wiped}
+use Rattle.session_driver.specs.Answers.{ran_at, ended_answer, ended_leaves}
 use Rattle.session_driver.specs.Quiet.{quiet_setting, quiet_plan, SameEnd, EndAlike, quiet_answer, QuietOutputs}
 use Rattle.machine_memory.specs.ArmedWrites.{Armed}
 use Rattle.late_launch.specs.Regions.{page}

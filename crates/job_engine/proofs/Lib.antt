@@ -1,0 +1,5 @@
+pub mod Runs
+pub mod Slots
+pub mod Sessions
+pub mod WholeCalls
+pub mod Lists

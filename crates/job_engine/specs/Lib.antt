@@ -1,0 +1,4 @@
+pub mod Jobs
+pub mod Calls
+pub mod Runs
+pub mod Answers
