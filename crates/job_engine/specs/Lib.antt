@@ -1,4 +1,5 @@
 pub mod Jobs
 pub mod Calls
+pub mod Commands
 pub mod Runs
 pub mod Answers
