@@ -1,3 +1,4 @@
+pub mod Machines
 pub mod Runs
 pub mod Slots
 pub mod Sessions

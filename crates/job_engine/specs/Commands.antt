@@ -1,5 +1,5 @@
 -- What is asked of a whole machine: of its device, of the slots of its disk, and of its power.
-use Rattle.std.specs.Prelude.{ℕ, List, Bool, true, false}
+use Rattle.std.specs.Prelude.{⊤, ℕ, List, Bool, true, false}
 use Rattle.flk_base.specs.Plan.{Plan, Return, Ask, Machine}
 use Rattle.seal_device.specs.Commands.{Command, PowerOn, Reply, costs}
 use Rattle.job_store.specs.Commands.{SlotCommand, SlotReply, slot_act}
@@ -39,3 +39,9 @@ any_act m (CyclePower keep fill) s = (((m PowerOn s.0).0, cycled keep fill s.1),
 abbrev pub to_device : {X : Type 0} → Plan Command Reply X → Plan AnyCommand AnyReply X
 to_device (Return x) = Return x
 to_device (Ask c next) = Ask (ToDevice c) (λ reply. to_device (next reply))
+
+-- a fact of the device's commands, as one of the whole machine's: power comes back by the device's power-on
+abbrev pub OfDevice : {T : Type 0} → (Command → T → Type 0) → AnyCommand → T × Simulated → Type 0
+OfDevice Fact (ToDevice c) t = Fact c t.0
+OfDevice Fact (ToSlots c) t = ⊤
+OfDevice Fact (CyclePower keep fill) t = Fact PowerOn t.0
