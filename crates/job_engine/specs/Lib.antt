@@ -2,4 +2,5 @@ pub mod Jobs
 pub mod Calls
 pub mod Commands
 pub mod Runs
+pub mod Whole
 pub mod Answers

@@ -5,7 +5,9 @@
 mod calls;
 mod ends;
 mod jobs;
+mod laws;
 mod parts;
 
 pub use ends::{JobEnd, LONGEST_INPUTS};
 pub use jobs::Jobs;
+pub use laws::whole_law;
