@@ -10,4 +10,4 @@ mod parts;
 
 pub use ends::{JobEnd, LONGEST_INPUTS};
 pub use jobs::Jobs;
-pub use laws::whole_law;
+pub use laws::{lasting_law, whole_law};
