@@ -109,7 +109,8 @@ module _ (May : (c : SlotCommand) → Simulated → Simulated → SlotReply c �
     part_ends (RunSession inputs) old new end (session, disk) = session_ends image inputs (unbegun roomy inputs) old new end session disk
     part_ends (OnSlots c) old new end ends = slots_end c old new end ends
 
-    -- what is so where no part is left, and where one is carried out, is not for want of memory, or is cut, is so of all
+    -- a claim holds of all parts, however they may end, where it holds of none, and of a first part that gave something
+    -- if it holds of what follows, that had no memory, and that was cut
     module _ {X : Type 0} (IsSo : Plan Part Gives X → Machines Simulated → Machines Simulated → Ended X → Type 0)
         (over : (x : X) (old : Machines Simulated) → IsSo (Return x) old old (With x))
         (goes_on : (part : Part) (next : Gives part → Plan Part Gives X) (old between new : Machines Simulated) (given : Gives part) (end : Ended X)
@@ -127,6 +128,7 @@ module _ (May : (c : SlotCommand) → Simulated → Simulated → SlotReply c �
       by_first part next old between new OutOfMemory end same follows rest = rw (follows.0, follows.1, same) (no_memory part next old)
       by_first part next old between new WithoutPower end is follows rest = rw (follows.0, follows.1) (no_power part next old between is)
 
+      -- and so of all
       by_parts : (parts : Plan Part Gives X) (old new : Machines Simulated) (end : Ended X) → MayEnd May roomy image parts old new end → IsSo parts old new end
       by_parts (Return x) old new end ends = rw (ends.0, ends.1) (over x old)
       by_parts (Ask part next) old new end (first, between, ended, follows) =
