@@ -9,11 +9,12 @@ use Rattle.script_text.specs.Grammar.{Request, Nothing, Meanings, row, request, 
 use Rattle.script_text.specs.Reading.{IsEarly, IsLate, is_count, may_allocate, words_may_allocate, reading}
 use Rattle.script_text.specs.Seen.{line_fault, request_of}
 use Rattle.script_text.specs.declared.command.Command.{Command}
-use Rattle.script_text.specs.declared.command.Command.TheVariants.{Device, Values, Memory, Processor}
+use Rattle.script_text.specs.declared.command.Command.TheVariants.{Device, Values, Memory, Processor, Disk}
 use Rattle.script_text.specs.declared.command.DeviceCommand.TheVariants.{Extend, Check}
 use Rattle.script_text.specs.declared.command.ValuesCommand.TheVariants.{Let}
 use Rattle.script_text.specs.declared.command.MemoryCommand.TheVariants.{Take}
 use Rattle.script_text.specs.declared.command.ProcessorCommand.TheVariants.{SetReg}
+use Rattle.script_text.specs.declared.command.DiskCommand.TheVariants.{Slot}
 use Rattle.script_text.specs.declared.line.Event.{Event}
 use Rattle.script_text.specs.declared.line.Event.TheVariants as event
 use Rattle.script_text.specs.declared.line.LineFault.{LineFault}
@@ -34,6 +35,7 @@ more_may (Device Check) h = refl
 more_may (Values Let) h = refl
 more_may (Memory Take) h = cc
 more_may (Processor SetReg) h = cc
+more_may (Disk Slot) h = cc
 more_may _ h = cc
 
 -- and so where words are left after the kinds
@@ -52,6 +54,7 @@ asks_something (Device Extend) arguments texts h = cc
 asks_something (Values Let) arguments texts h = cc
 asks_something (Memory Take) arguments texts h = cc
 asks_something (Processor SetReg) arguments texts h = cc
+asks_something (Disk Slot) arguments texts h = cc
 asks_something _ arguments texts h = cc
 
 blank_event : (x : Event) → request_of x ≡ Nothing → x ≡ event.Blank

@@ -23,11 +23,12 @@ use Rattle.script_text.specs.Seen.{line_fault, IsShortName, HasShortName, HasReg
 use Rattle.script_text.specs.declared.command.Kind.{Kind}
 use Rattle.script_text.specs.declared.command.Kind.TheVariants.{Number, Name, ImageKind, Register, Expression}
 use Rattle.script_text.specs.declared.command.Command.{Command}
-use Rattle.script_text.specs.declared.command.Command.TheVariants.{Device, Values, Memory, Processor}
+use Rattle.script_text.specs.declared.command.Command.TheVariants.{Device, Values, Memory, Processor, Disk}
 use Rattle.script_text.specs.declared.command.DeviceCommand.TheVariants.{Extend, Read, Seed, Unseal, UnsealInto, Counter, Random, RandomInto, Quote, QuoteInto, Check}
 use Rattle.script_text.specs.declared.command.ValuesCommand.TheVariants.{Let, Show, Image}
 use Rattle.script_text.specs.declared.command.MemoryCommand.TheVariants.{Take, Give, Poke, Peek, Dma}
 use Rattle.script_text.specs.declared.command.ProcessorCommand.TheVariants.{SetReg, Regs, Arm, Session, SessionInto}
+use Rattle.script_text.specs.declared.command.DiskCommand.TheVariants.{Slot, SlotInto, Overwrite}
 use Rattle.script_text.specs.declared.command.TheConstants.{COMMANDS}
 use Rattle.script_text.specs.declared.line.TheConstants.{LONGEST_LINE}
 use Rattle.script_text.specs.declared.line.LineFault.{LineFault}
@@ -87,6 +88,9 @@ listed (Device RandomInto) = fixed (Device RandomInto) refl refl refl (λ others
 listed (Device Quote) = fixed (Device Quote) refl refl refl (λ others. refl)
 listed (Device QuoteInto) = fixed (Device QuoteInto) refl refl refl (λ others. refl)
 listed (Device Check) = record { known = refl; found = λ count h. rw h refl; plain = λ others. refl }
+listed (Disk Slot) = fixed (Disk Slot) refl refl refl (λ others. refl)
+listed (Disk SlotInto) = fixed (Disk SlotInto) refl refl refl (λ others. refl)
+listed (Disk Overwrite) = fixed (Disk Overwrite) refl refl refl (λ others. refl)
 
 passes : {A : Type 0} (test : A → Bool) (xs : List A) (x : A) → find test xs ≡ Some x
     → test x ≡ true
@@ -382,6 +386,7 @@ request_short (Processor SessionInto) arguments texts k = k.1.1.1.0
 request_short (Device UnsealInto) arguments texts k = k.1.0
 request_short (Device RandomInto) arguments texts k = k.0
 request_short (Device QuoteInto) arguments texts k = k.1.0
+request_short (Disk SlotInto) arguments texts k = k.1.1.0
 request_short (Memory Take) arguments texts k = tt
 request_short _ arguments texts k = tt
 
@@ -392,6 +397,7 @@ request_register (Processor SetReg) arguments texts k = k.0
 request_register (Device Extend) arguments texts k = tt
 request_register (Values Let) arguments texts k = tt
 request_register (Memory Take) arguments texts k = tt
+request_register (Disk Slot) arguments texts k = tt
 request_register _ arguments texts k = tt
 
 -- a name that is bound has 1 to 16 bytes

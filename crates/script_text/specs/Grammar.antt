@@ -9,11 +9,12 @@ use Rattle.script_text.specs.declared.line.TheConstants.{LONGEST_LINE}
 use Rattle.script_text.specs.declared.command.Kind.{Kind}
 use Rattle.script_text.specs.declared.command.Kind.TheVariants.{Number, Name, ImageKind, Register, Expression}
 use Rattle.script_text.specs.declared.command.Command.{Command}
-use Rattle.script_text.specs.declared.command.Command.TheVariants.{Device, Values, Memory, Processor}
+use Rattle.script_text.specs.declared.command.Command.TheVariants.{Device, Values, Memory, Processor, Disk}
 use Rattle.script_text.specs.declared.command.DeviceCommand.TheVariants.{Extend, Read, Seed, Unseal, UnsealInto, Counter, Random, RandomInto, Quote, QuoteInto, Check}
 use Rattle.script_text.specs.declared.command.ValuesCommand.TheVariants.{Let, Show, Image}
 use Rattle.script_text.specs.declared.command.MemoryCommand.TheVariants.{Take, Give, Poke, Peek, Dma}
 use Rattle.script_text.specs.declared.command.ProcessorCommand.TheVariants.{SetReg, Regs, Arm, Session, SessionInto}
+use Rattle.script_text.specs.declared.command.DiskCommand.TheVariants.{Slot, SlotInto, Overwrite}
 
 -- what a line asks for: nothing, to extend a register by a text, to read a register, to bind a name
 -- to a value, to show a value, or to bind a name to the image of some code; of memory to take so
@@ -25,7 +26,8 @@ use Rattle.script_text.specs.declared.command.ProcessorCommand.TheVariants.{SetR
 -- show the value of a counter, to draw a random word, and to bind a name, if there is one, to it, to
 -- have it quote register 17 for a nonce, and to bind a name, if there is one, to the quote, or to
 -- check whether a quote is that of a session of an image on inputs, with its outputs, its end, its
--- nonce and the texts that it extended by
+-- nonce and the texts that it extended by; and of the disk to show the blob in a slot of a job, and
+-- to bind a name, if there is one, to it, or to write a blob into a slot of a job
 pub data Request : Type 0 where
   Nothing : Request
   ExtendBy : (r : ℕ) → (text : List Term) → Request
@@ -50,6 +52,8 @@ pub data Request : Type 0 where
   QuoteOf : (nonce : List Term) → (var : Option (List ℕ)) → Request
   CheckOf : (quote image inputs outputs : List Term) → (end : ℕ) → (nonce : List Term)
       → (texts : List (List Term)) → Request
+  SlotOf : (j s : ℕ) → (var : Option (List ℕ)) → Request
+  OverwriteOf : (j s : ℕ) → (blob : List Term) → Request
 
 -- ---- words, by their kinds
 
@@ -148,6 +152,10 @@ row (Device Check) =
       kinds = Expression ∷ Expression ∷ Expression ∷ Expression ∷ Number ∷ Expression ∷ [];
       more = true;
     }
+row (Disk Slot) = record { word = codes "slot"; kinds = Number ∷ Number ∷ []; more = false }
+row (Disk SlotInto) = record { word = codes "slot"; kinds = Number ∷ Number ∷ Name ∷ []; more = false }
+row (Disk Overwrite) =
+    record { word = codes "overwrite"; kinds = Number ∷ Number ∷ Expression ∷ []; more = false }
 
 -- what a command asks for with these arguments and the texts after them
 abbrev pub request : (command : Command) → Meanings (row command).kinds → List (List Term) → Request
@@ -177,6 +185,9 @@ request (Device Quote) (nonce, _) _ = QuoteOf nonce None
 request (Device QuoteInto) (nonce, (var, _)) _ = QuoteOf nonce (Some var)
 request (Device Check) (quote, (image, (inputs, (outputs, (end, (nonce, _)))))) texts =
     CheckOf quote image inputs outputs end nonce texts
+request (Disk Slot) (j, (s, _)) _ = SlotOf j s None
+request (Disk SlotInto) (j, (s, (var, _))) _ = SlotOf j s (Some var)
+request (Disk Overwrite) (j, (s, (blob, _))) _ = OverwriteOf j s blob
 
 -- ---- lines
 

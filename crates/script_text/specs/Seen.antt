@@ -1,9 +1,9 @@
 -- What contracts see of an event, and of the error where there is none.
 use Rattle.std.specs.Prelude.{◌≤◌, length, ℕ, List, Option, Some, None, option_map, ◌<◌}
-use Rattle.script_text.specs.Grammar.{Request, Nothing, ExtendBy, ReadOf, LetBe, ShowOf, ImageOf, TakeOf, GiveAt, PokeAt, PeekAt, DmaAt, SetRegOf, RegsOf, ArmAt, SessionOf, SeedOf, UnsealOf, CounterOf, RandomOf, QuoteOf, CheckOf}
+use Rattle.script_text.specs.Grammar.{Request, Nothing, ExtendBy, ReadOf, LetBe, ShowOf, ImageOf, TakeOf, GiveAt, PokeAt, PeekAt, DmaAt, SetRegOf, RegsOf, ArmAt, SessionOf, SeedOf, UnsealOf, CounterOf, RandomOf, QuoteOf, CheckOf, SlotOf, OverwriteOf}
 use Rattle.expr_text.specs.declared.name.TheConstants.{LONGEST_NAME}
 use Rattle.script_text.specs.declared.line.Event.{Event}
-use Rattle.script_text.specs.declared.line.Event.TheVariants.{Blank, Extend, Read, Let, Show, Image, Take, Give, Poke, Peek, Dma, SetReg, Regs, Arm, Session, Seed, Unseal, Counter, Random, Quote, Check}
+use Rattle.script_text.specs.declared.line.Event.TheVariants.{Blank, Extend, Read, Let, Show, Image, Take, Give, Poke, Peek, Dma, SetReg, Regs, Arm, Session, Seed, Unseal, Counter, Random, Quote, Check, Slot, Overwrite}
 use Rattle.script_text.specs.declared.line.LineError.{LineError}
 use Rattle.script_text.specs.declared.line.LineError.TheVariants.{Fault, NoMemory}
 use Rattle.script_text.specs.declared.line.LineFault.{LineFault}
@@ -33,6 +33,8 @@ request_of (Random var) = RandomOf (option_map (λ name. name.bytes) var)
 request_of (Quote nonce var) = QuoteOf nonce (option_map (λ name. name.bytes) var)
 request_of (Check quote image inputs outputs end nonce texts) =
     CheckOf quote image inputs outputs end nonce texts
+request_of (Slot j s var) = SlotOf j s (option_map (λ name. name.bytes) var)
+request_of (Overwrite j s blob) = OverwriteOf j s blob
 
 -- the fault that an error stands for: none where memory ran out
 abbrev pub line_fault : LineError → Option LineFault
@@ -52,6 +54,7 @@ HasShortName (SessionOf image inputs nonce (Some name)) = IsShortName name
 HasShortName (UnsealOf blob (Some name)) = IsShortName name
 HasShortName (RandomOf (Some name)) = IsShortName name
 HasShortName (QuoteOf nonce (Some name)) = IsShortName name
+HasShortName (SlotOf j s (Some name)) = IsShortName name
 HasShortName _ = Unit {0}
 
 -- the register that a request sets is one of the eight

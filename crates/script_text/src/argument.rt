@@ -11,7 +11,8 @@ ghost use Rattle.script_text.specs.Seen.{line_fault, request_of};
 ghost use Rattle.script_text.specs.declared.command.Kind.TheVariants.{Number, Name, ImageKind, Register, Expression};
 
 use crate::command::{
-    Command, DeviceCommand, Kind, MOST_ARGUMENTS, MemoryCommand, ProcessorCommand, ValuesCommand,
+    Command, DeviceCommand, DiskCommand, Kind, MOST_ARGUMENTS, MemoryCommand, ProcessorCommand,
+    ValuesCommand,
 };
 use crate::line::{Event, LineError, LineFault};
 use crate::words::Words;
@@ -270,6 +271,7 @@ pub(crate) fn event_of(command: Command, arguments: Arguments, texts: Exprs) -> 
         Command::Values(command) => values_event(command, arguments),
         Command::Memory(command) => memory_event(command, arguments),
         Command::Processor(command) => processor_event(command, arguments),
+        Command::Disk(command) => disk_event(command, arguments),
     }
 }
 
@@ -413,6 +415,31 @@ fn processor_event(command: ProcessorCommand, mut arguments: Arguments) -> Event
             inputs: arguments.expression(),
             nonce: arguments.expression(),
             var: Some(arguments.name()),
+        },
+    }
+}
+
+// The same of a command for the disk.
+fn disk_event(command: DiskCommand, mut arguments: Arguments) -> Event
+    requires { IsOf (row (Command.Disk command)).kinds arguments }
+    ensures { (texts : List (List Term)) → request_from (Command.Disk command) arguments texts
+        ≡ Some (request_of result) }
+{
+    match command {
+        DiskCommand::Slot => Event::Slot {
+            j: arguments.number(),
+            s: arguments.number(),
+            var: None,
+        },
+        DiskCommand::SlotInto => Event::Slot {
+            j: arguments.number(),
+            s: arguments.number(),
+            var: Some(arguments.name()),
+        },
+        DiskCommand::Overwrite => Event::Overwrite {
+            j: arguments.number(),
+            s: arguments.number(),
+            blob: arguments.expression(),
         },
     }
 }

@@ -33,6 +33,8 @@ pub(crate) enum Command {
     Memory(MemoryCommand),
     /// For the processor.
     Processor(ProcessorCommand),
+    /// For the disk.
+    Disk(DiskCommand),
 }
 
 /// The commands for the sealing device.
@@ -79,8 +81,16 @@ pub(crate) enum ProcessorCommand {
     SessionInto,
 }
 
+/// The commands for the disk.
+#[derive(Clone, Copy)]
+pub(crate) enum DiskCommand {
+    Slot,
+    SlotInto,
+    Overwrite,
+}
+
 /// All of them.
-pub(crate) const COMMANDS: [Command; 24] = [
+pub(crate) const COMMANDS: [Command; 27] = [
     Command::Device(DeviceCommand::Extend),
     Command::Device(DeviceCommand::Read),
     Command::Device(DeviceCommand::Seed),
@@ -105,6 +115,9 @@ pub(crate) const COMMANDS: [Command; 24] = [
     Command::Processor(ProcessorCommand::Arm),
     Command::Processor(ProcessorCommand::Session),
     Command::Processor(ProcessorCommand::SessionInto),
+    Command::Disk(DiskCommand::Slot),
+    Command::Disk(DiskCommand::SlotInto),
+    Command::Disk(DiskCommand::Overwrite),
 ];
 
 /// The most arguments that a command has, without the texts that may follow them.
@@ -242,6 +255,30 @@ impl ProcessorCommand {
     }
 }
 
+impl DiskCommand {
+    // Its row.
+    fn row(self) -> Row
+        ensures word { result.word.now ≡ (row (Command.Disk self)).word }
+        ensures kinds { result.kinds.now ≡ (row (Command.Disk self)).kinds }
+        ensures more { result.more ≡ (row (Command.Disk self)).more }
+        ensures few { length result.kinds.now ≤ MOST_ARGUMENTS }
+    {
+        let (word, kinds): (&'static [u8], &'static [Kind]) = match self {
+            DiskCommand::Slot => (b"slot", &[Kind::Number, Kind::Number]),
+            DiskCommand::SlotInto => (b"slot", &[Kind::Number, Kind::Number, Kind::Name]),
+            DiskCommand::Overwrite => (
+                b"overwrite",
+                &[Kind::Number, Kind::Number, Kind::Expression],
+            ),
+        };
+        Row {
+            word,
+            kinds,
+            more: false,
+        }
+    }
+}
+
 impl Command {
     /// Its row.
     pub(crate) fn row(self) -> Row
@@ -255,6 +292,7 @@ impl Command {
             Command::Values(command) => command.row(),
             Command::Memory(command) => command.row(),
             Command::Processor(command) => command.row(),
+            Command::Disk(command) => command.row(),
         }
     }
 

@@ -135,6 +135,18 @@ pub enum Event {
         /// What the session extended register 17 by, from the first on.
         texts: Exprs,
     },
+    /// To show the blob in slot `s` of job `j`, and to bind a name, if there is one, to it.
+    Slot {
+        j: u32,
+        s: u32,
+        var: Option<Bytes>,
+    },
+    /// To write a blob into slot `s` of job `j`.
+    Overwrite {
+        j: u32,
+        s: u32,
+        blob: Expr,
+    },
 }
 
 /// The first thing that is wrong with a line, in the order of the checks. Of the words of one line,

@@ -45,12 +45,13 @@ fn of_value<'e>(command: &'static str, first: u32, value: &'e Expr) -> Asked<'e>
 // A command with a name that may be missing, and with its first expression, if it has one.
 fn of_binding<'e>(
     command: &'static str,
+    numbers: [u32; 3],
     var: &'e Option<Bytes>,
     value: Option<&'e Expr>,
 ) -> Asked<'e> {
     Asked {
         command,
-        numbers: [0, 0, 0],
+        numbers,
         name: match var {
             Some(name) => name.as_slice(),
             None => b"",
@@ -86,13 +87,15 @@ fn of_event(event: &Event) -> Asked<'_> {
         Event::SetReg { reg, n } => of_numbers("reg", u32::from(*reg), *n),
         Event::Regs => of_numbers("regs", 0, 0),
         Event::Arm { turn, at, bytes } => of_all("arm", [*turn, *at, 0], b"", bytes),
-        Event::Session { image, var, .. } => of_binding("session", var, Some(image)),
+        Event::Session { image, var, .. } => of_binding("session", [0, 0, 0], var, Some(image)),
         Event::Seed { seed } => of_value("seed", 0, seed),
-        Event::Unseal { blob, var } => of_binding("unseal", var, Some(blob)),
+        Event::Unseal { blob, var } => of_binding("unseal", [0, 0, 0], var, Some(blob)),
         Event::Counter { id } => of_numbers("counter", *id, 0),
-        Event::Random { var } => of_binding("random", var, None),
-        Event::Quote { nonce, var } => of_binding("quote", var, Some(nonce)),
+        Event::Random { var } => of_binding("random", [0, 0, 0], var, None),
+        Event::Quote { nonce, var } => of_binding("quote", [0, 0, 0], var, Some(nonce)),
         Event::Check { quote, end, .. } => of_value("check", *end, quote),
+        Event::Slot { j, s, var } => of_binding("slot", [*j, *s, 0], var, None),
+        Event::Overwrite { j, s, blob } => of_all("overwrite", [*j, *s, 0], b"", blob),
     }
 }
 
@@ -231,6 +234,36 @@ fn good_device_lines(rt: HostRuntime) {
     }
 }
 
+// Lines for the disk, and what they ask for.
+const GOOD_OF_DISKS: &[Row] = &[
+    ("slot 0 1", "slot", [0, 1, 0], "", &[]),
+    ("slot 0 1 v", "slot", [0, 1, 0], "v", &[]),
+    ("\tslot  7 0x2 \r", "slot", [7, 2, 0], "", &[]),
+    (
+        "slot 4294967295 8 abcdefghijklmnop",
+        "slot",
+        [4_294_967_295, 8, 0],
+        "abcdefghijklmnop",
+        &[],
+    ),
+    ("overwrite 0 1 x:00", "overwrite", [0, 1, 0], "", &[0]),
+    ("overwrite 8 2 x:", "overwrite", [8, 2, 0], "", &[]),
+    (
+        "\toverwrite  0x7 0 rep:5a*2~1\r",
+        "overwrite",
+        [7, 0, 0],
+        "",
+        &[90, 91],
+    ),
+];
+
+#[test]
+fn good_disk_lines(rt: HostRuntime) {
+    for (i, row) in GOOD_OF_DISKS.iter().enumerate() {
+        assert!(rt; is_row(rt.alloc(), row), "row {i}");
+    }
+}
+
 // The line asks for a session with these inputs and this nonce.
 fn is_session(alloc: Global, line: &str, inputs: &[u8], nonce: &[u8]) -> bool {
     match read_line(alloc, line.as_bytes()) {
@@ -362,6 +395,7 @@ const UNBOUND: &[&str] = &[
     "session m x: x: m",
     "quote n",
     "check q x: x: x: 0 x:",
+    "overwrite 0 1 v",
 ];
 
 #[test]
@@ -461,6 +495,25 @@ const BAD: &[(&str, LineFault)] = &[
     ("check x: x: x: x: 0 x: 03", LineFault::Expression),
     ("check x: x: x: x: 0 x: x: 9 x:", LineFault::Expression),
     ("check x: x: x: x: 0 x: x: x:0", LineFault::Expression),
+    ("slots 0 1", LineFault::Command),
+    ("Slot 0 1", LineFault::Command),
+    ("slot", LineFault::Count),
+    ("slot 0", LineFault::Count),
+    ("slot 0 1 v w", LineFault::Count),
+    ("slot x 1", LineFault::Number),
+    ("slot x 1 V", LineFault::Number),
+    ("slot 0 v", LineFault::Number),
+    ("slot 0 4294967296", LineFault::Number),
+    ("slot 0 1 V", LineFault::Name),
+    ("slot 0 1 x:00", LineFault::Name),
+    ("slot 0 1 abcdefghijklmnopq", LineFault::Name),
+    ("overwrites 0 1 x:00", LineFault::Command),
+    ("overwrite 0 1", LineFault::Count),
+    ("overwrite 0 1 x: v", LineFault::Count),
+    ("overwrite 0 x: zz:", LineFault::Number),
+    ("overwrite 4294967296 1 x:", LineFault::Number),
+    ("overwrite 0 1 zz:", LineFault::Expression),
+    ("overwrite 0 1 x:0", LineFault::Expression),
 ];
 
 #[test]
