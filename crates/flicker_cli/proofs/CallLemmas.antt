@@ -20,7 +20,7 @@ use Rattle.seal_device.specs.Rules.{Rules}
 use Rattle.late_launch.specs.Boards.{BoardParts}
 use Rattle.flk_run.specs.Agreement.{AgreesByLists, NothingComparedBy}
 use Rattle.flk_run.specs.Platform.{Platform, ListPlatform, DigestPlatform, platform_digested, at_rest}
-use Rattle.flk_run.specs.declared.disk.SimDisk.{SimDisk}
+use Rattle.job_store.specs.Simulated.{Simulated}
 use Rattle.flk_run.specs.Parts.{Experiment, platform_of, known_if, platform}
 use Rattle.flk_run.proofs.AgreementLemmas.{run_from}
 use Rattle.flk_run.specs.Runs.{Ran, AllDone, bad_in}
@@ -193,7 +193,7 @@ no_room R Run source out platform unnamed same unwritten = record { how = NoMemo
 no_room R (Filter which) source out platform unnamed same unwritten = record { how = NoMemory; is = refl; ran = inl (same, unwritten); kept = refl }
 
 -- a platform with no name bound is as it is without names
-pub no_names : (untaken : Bool) (board : BoardParts) (disk : SimDisk) → known_if untaken (platform_of board [] disk empty) ≡ option_map at_rest (known_if untaken (platform_of board [] disk empty))
+pub no_names : (untaken : Bool) (board : BoardParts) (disk : Simulated) → known_if untaken (platform_of board [] disk empty) ≡ option_map at_rest (known_if untaken (platform_of board [] disk empty))
 no_names true board disk = refl
 no_names false board disk = refl
 

@@ -1,9 +1,9 @@
 -- A call over std's reader and writers.
-use Rattle.std.specs.Prelude.{◌≡◌, ℕ, false, List, Option, Some, Result, Ok, Err}
+use Rattle.std.specs.Prelude.{◌≡◌, ℕ, false, List, [], Option, Some, Result, Ok, Err}
 use Rattle.flk_base.specs.Known.{Edge}
 use Rattle.flk_base.specs.Streams.{Intake, Output}
 use Rattle.seal_device.specs.Digests.{digests}
-use Rattle.flk_run.specs.declared.disk.SimDisk.{SimDisk}
+use Rattle.job_store.specs.Simulated.{blank_failing}
 use Rattle.flk_run.specs.Platform.{DigestPlatform, blank}
 use Rattle.flicker_cli.specs.declared.words.Command.{Command}
 use Rattle.flicker_cli.specs.declared.start.StartFault.{StartFault}
@@ -30,12 +30,11 @@ written_over contents old new = record {
   may_allocate = false;
 }
 
--- a call of these words answered this status, over this reader and these writers, from a platform that was never used;
--- what it left is given up
+-- a call of these words answered this status, over this reader and these writers, from a platform that was never used,
+-- beside a disk of zeros of which no call fails; what it left is given up
 pub record AnsweredOver (task : Option Command) (status : ℕ) (source : Intake) (out err : Output) : Type 0 where
-  pub disk : SimDisk
   pub left : Option DigestPlatform
-  pub answered : AnsweredTwice task status source out err (Some (blank digests disk)) left
+  pub answered : AnsweredTwice task status source out err (Some (blank digests (blank_failing []))) left
 
 -- the status that the program ends with
 abbrev pub start_status : Result ℕ StartFault → ℕ

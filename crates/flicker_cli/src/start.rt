@@ -7,6 +7,7 @@ ghost use Rattle.std.specs.Process.{exit_status};
 ghost use Rattle.std.specs.declared.io.ErrorKind.TheVariants.{OutOfMemory};
 ghost use Rattle.flicker_cli.specs.Commands.{command};
 ghost use Rattle.seal_device.specs.Digests.{digests};
+ghost use Rattle.job_store.specs.Simulated.{blank_failing};
 ghost use Rattle.machine_memory.specs.HostMemory.{is_untaken};
 ghost use Rattle.flk_run.specs.Parts.{platform_of, known_if};
 ghost use Rattle.flk_run.specs.Platform.{blank};
@@ -126,10 +127,10 @@ pub fn begin<R: Read, W: Write, V: Write>(
     }
 }
 
-// A board and a disk that were never used.
+// A board that was never used, and a disk of zeros of which no call fails.
 fn blank_machine(alloc: Global) -> Result<(Board, SimDisk), StartFault>
     ensures blank { IfOk result (λ machine.
-        known_if (is_untaken machine.0.memory) (platform_of machine.0 [] machine.1 empty) ≡ Some (blank digests machine.1)) }
+        known_if (is_untaken machine.0.memory) (platform_of machine.0 [] machine.1 empty) ≡ Some (blank digests (blank_failing []))) }
     ensures want { IfErr result (λ fault. fault ≡ StartFault.NoMemory) }
 {
     let Ok(board) = Board::blank(alloc) else {

@@ -4,7 +4,7 @@ use Rattle.std.specs.Option.{IfSome, option_map}
 use Rattle.seal_device.specs.Digests.{digests}
 use Rattle.script_text.specs.Grammar.{Request}
 use Rattle.expr_text.specs.Variables.{Table}
-use Rattle.flk_run.specs.declared.disk.SimDisk.{SimDisk}
+use Rattle.job_store.specs.Simulated.{Simulated}
 use Rattle.machine_memory.specs.HostMemory.{HostMemory}
 use Rattle.flk_run.specs.Platform.{DigestPlatform, with_memory}
 use Rattle.flk_run.specs.Answers.{Answer, line_of}
@@ -21,7 +21,7 @@ abbrev pub with_end : DigestPlatform → HostMemory × Answer → DigestPlatform
 with_end p end = (record p { around = with_memory end.0 p.around }, end.1)
 
 -- the platform of this hardware, with this memory and these armed writes
-abbrev pub with_board : BoardParts → HostMemory → List Armed → SimDisk → Table → DigestPlatform
+abbrev pub with_board : BoardParts → HostMemory → List Armed → Simulated → Table → DigestPlatform
 with_board hardware memory armed disk variables =
     record {
       device = hardware.device;
@@ -37,7 +37,7 @@ kept hardware = record { device = refl; registers = refl; fuse = refl }
 
 -- the device, the registers and the fuse stay, and memory is as the event leaves it
 pub memory_steps : (end : HostMemory × Answer) (board new : BoardParts) (old memory : HostMemory)
-    (shown : Answer) (armed : List Armed) (disk : SimDisk) (variables : Table) → KeepsDevice board new
+    (shown : Answer) (armed : List Armed) (disk : Simulated) (variables : Table) → KeepsDevice board new
     → ◌≡◌ {A = HostMemory × Answer} (memory, shown) end
     → ◌≡◌ {A = DigestPlatform × Answer} (with_board new memory armed disk variables, shown)
     (with_end (with_board board old armed disk variables) end)

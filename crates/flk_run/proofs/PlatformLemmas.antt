@@ -7,7 +7,7 @@ use Rattle.expr_text.specs.declared.value.TheConstants.{LONGEST_VALUE}
 use Rattle.expr_text.specs.declared.value.ExprFault.{ExprFault}
 use Rattle.expr_text.specs.Variables.{Table}
 use Rattle.expr_text.specs.Values.{value_of}
-use Rattle.script_text.specs.Grammar.{Request, SessionOf, QuoteOf, CheckOf}
+use Rattle.script_text.specs.Grammar.{Request, SessionOf, QuoteOf, CheckOf, OverwriteOf}
 use Rattle.flk_run.specs.Tasks.{Task, Rest, Refuse, Read, Give, SetRegister, ShowRegisters, ReadCounter, Draw, MayAllocate, MayAllocateFor, task_or_fault, image_or_fault, peek_or_long, task_of}
 use Rattle.flk_run.specs.Seen.{binds, takes}
 
@@ -89,4 +89,5 @@ may_for (SessionOf image inputs nonce var) table may = has_value (value_of image
 may_for (QuoteOf nonce var) table may = has_value (value_of nonce table) _ may
 may_for (CheckOf quote image inputs outputs end nonce texts) table may =
     has_value (value_of quote table) _ may
+may_for (OverwriteOf j s blob) table may = has_value (value_of blob table) _ may
 may_for _ table may = may

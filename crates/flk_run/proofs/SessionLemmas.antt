@@ -8,9 +8,9 @@ use Rattle.std.proofs.lemmas.Bool.{cases_Bool, cases_lt, cond-true, cond-false, 
 use Rattle.std.proofs.lemmas.List.{length-map, length-replicate}
 use Rattle.std.proofs.lemmas.Option.{unwrap_or-slice_get, get_or_from_slice_get}
 use Rattle.std.specs.Option.{unwrap_or}
-use Rattle.flk_base.specs.Plan.{Plan, Return, run}
+use Rattle.flk_base.specs.Plan.{Plan, Machine, Return, ◌>>=◌, run}
 use Rattle.flk_base.specs.PlanLaws.{run-bind}
-use Rattle.flk_base.specs.Stop.{Limit, limited, Fused, with_fuse, end_of, then_fused}
+use Rattle.flk_base.specs.Stop.{Limit, limited, Fused, with_fuse, end_of, fused, then_fused}
 use Rattle.flk_base.specs.StopLaws.{fused-bind}
 use Rattle.region_pool.specs.declared.mark.Mark.{Mark}
 use Rattle.region_pool.specs.Marks.{is_free}
@@ -29,7 +29,7 @@ use Rattle.machine_memory.specs.HostMemory.{HostMemory, is_taken}
 use Rattle.machine_memory.proofs.Pieces.{Writes, writes-written}
 use Rattle.slb_image.specs.Faults.{image_fault}
 use Rattle.slb_image.specs.declared.fault.ImageFault.{ImageFault}
-use Rattle.seal_device.specs.Commands.{Command, Reply, PowerOn, costs, act}
+use Rattle.seal_device.specs.Commands.{Command, Reply, PowerOn, act}
 use Rattle.seal_device.specs.Digests.{DigestDevice, digests, on_device}
 use Rattle.expr_text.specs.Variables.{Table}
 use Rattle.late_launch.specs.Boards.{BoardParts, DarkParts, fused_device, powered, first_memory}
@@ -43,11 +43,13 @@ use Rattle.session_driver.specs.Answers.{Course, IsRefused, RunsAt, Refusal, IsN
 use Rattle.session_driver.specs.declared.driver.SessionEnd.{SessionEnd}
 use Rattle.session_driver.specs.declared.driver.SessionEnd.TheVariants as ends
 use Rattle.flk_run.specs.declared.answers.Refusal.TheVariants.{PowerLost}
-use Rattle.flk_run.specs.declared.disk.SimDisk.{SimDisk}
+use Rattle.job_store.specs.Simulated.{Simulated}
+use Rattle.job_engine.specs.Commands.{AnyCommand, AnyReply, any_costs, any_act, cycled, to_device}
+use Rattle.job_engine.proofs.Machines.{fused_to_device}
 use Rattle.flk_run.specs.Answers.{Answer, Ended, Refused}
 use Rattle.flk_run.specs.Platform.{Around, DigestPlatform, after_power_on}
 use Rattle.flk_run.specs.Parts.{HoldsAll, IsHost, MemoryStands, host_memory, platform_with}
-use Rattle.flk_run.specs.Events.{is_permitted, permits_around, setting_around, course_around, session_over, after_session, session_task, settlement, with_stop, after_outcome, task_step}
+use Rattle.flk_run.specs.Events.{Outcome, is_permitted, permits_around, setting_around, course_around, session_over, after_session, session_task, settlement, with_stop, after_outcome, task_step}
 use Rattle.flk_run.specs.Sessions.{answer_to_end, armed_after, table_after}
 use Rattle.flk_run.specs.Tasks.{RunSession}
 use Rattle.flk_run.proofs.MarkLemmas.{taken_mark, open_frame, all_same, place_agrees}
@@ -178,27 +180,63 @@ module _ (p : HostMemory) (m : Contents) (first : ℕ) (stands : MemoryStands p 
 
 -- ---- a task that may be stopped
 
--- how a task that ended so on a device with a fuse is settled
-abbrev pub settled : SimDisk → Around → Fused DigestDevice × Option (Around × Answer) → DigestPlatform × Answer
-settled disk w (left, Some done) =
-    (record { device = left.state; disk = disk; around = done.0; fuse = left.fuse }, done.1)
-settled disk w (left, None) = (
-  record { device = (act digests PowerOn left.state).0; disk = disk; around = after_power_on w; fuse = None },
+-- a device by digests beside a disk, and what carries out commands to both
+abbrev pub DigestMachine : Type 0
+DigestMachine = DigestDevice × Simulated
+
+abbrev pub machine : Machine AnyCommand AnyReply DigestMachine
+machine = any_act (act digests)
+
+-- a plan on both with a fuse
+abbrev pub on_machine : {X : Type 0} → Plan AnyCommand AnyReply X → Fused DigestMachine → Fused DigestMachine × Option X
+on_machine plan before = fused any_costs machine plan before
+
+-- the device and the disk of a platform, with its fuse
+abbrev pub fused_machine : DigestPlatform → Fused DigestMachine
+fused_machine p = with_fuse (p.device, p.disk) p.fuse
+
+-- where a plan of the device ended, beside a disk
+abbrev pub beside : {X : Type 0} → Simulated → Fused DigestDevice × X → Fused DigestMachine × X
+beside disk end = (with_fuse (end.0.state, disk) end.0.fuse, end.1)
+
+-- how a task that ended so with a fuse is settled
+abbrev pub settled : Around → Fused DigestMachine × Option (Around × Answer) → DigestPlatform × Answer
+settled w (left, Some done) =
+    (record { device = left.state.0; disk = left.state.1; around = done.0; fuse = left.fuse }, done.1)
+settled w (left, None) = (
+  record {
+    device = (act digests PowerOn left.state.0).0;
+    disk = cycled 0 [] left.state.1;
+    around = after_power_on w;
+    fuse = None;
+  },
   Refused PowerLost,
 )
 
-settled_so : (disk : SimDisk) (w : Around) (end : DigestDevice × (Limit × Option (Around × Answer)))
-    → after_outcome disk (run (act digests) (settlement w end.1) end.0) ≡ settled disk w (end_of end)
-settled_so disk w (device, (left, Some done)) = refl
-settled_so disk w (device, (left, None)) = refl
+settled_so : (w : Around) (end : DigestMachine × (Limit × Option (Around × Answer)))
+    → after_outcome (run machine (settlement w end.1) end.0) ≡ settled w (end_of end)
+settled_so w (here, (left, Some done)) = refl
+settled_so w (here, (left, None)) = refl
 
 -- it is what the plan comes to
-pub stop_settled : (disk : SimDisk) (w : Around) (plan : Plan Command Reply (Around × Answer)) (before : Fused DigestDevice)
-    → after_outcome disk (run (act digests) (with_stop w before.fuse plan) before.state)
-    ≡ settled disk w (on_device plan before)
-stop_settled disk w plan before =
-    ap (after_outcome disk) (run-bind (act digests) (limited costs plan before.fuse) (settlement w) before.state)
-    ∙ settled_so disk w (run (act digests) (limited costs plan before.fuse) before.state)
+pub stop_settled : (w : Around) (plan : Plan AnyCommand AnyReply (Around × Answer)) (before : Fused DigestMachine)
+    → after_outcome (run machine (with_stop w before.fuse plan) before.state) ≡ settled w (on_machine plan before)
+stop_settled w plan before =
+    ap (λ (end : DigestMachine × Outcome). after_outcome end)
+    (run-bind machine (limited any_costs plan before.fuse) (settlement w) before.state)
+    ∙ settled_so w (run machine (limited any_costs plan before.fuse) before.state)
+
+-- a plan of the device, and then what its value comes to
+device_then : {Y : Type 0} (plan : Plan Command Reply Y) (next : Y → Around × Answer) (w : Around) (disk : Simulated)
+    (before : Fused DigestDevice)
+    → after_outcome (run machine (with_stop w before.fuse (to_device plan >>= λ y. Return (next y))) (before.state, disk))
+    ≡ settled w (then_fused any_costs machine (λ y. Return (next y)) (beside disk (on_device plan before)))
+device_then plan next w disk before =
+    stop_settled w (to_device plan >>= λ y. Return (next y)) (with_fuse (before.state, disk) before.fuse)
+    ∙ ap (settled w) (fused-bind any_costs machine (to_device plan) (λ y. Return (next y))
+    (with_fuse (before.state, disk) before.fuse))
+    ∙ ap (λ end. settled w (then_fused any_costs machine (λ y. Return (next y)) end))
+    (fused_to_device (act digests) plan before.state disk before.fuse)
 
 -- ---- the session
 
@@ -209,7 +247,7 @@ outputs_shown count outputs out counted is =
     ∙ take-append_seam outputs _
 
 module _ (board : BoardParts) (spans : List Span) (image inputs nonce : List ℕ) (armed : List Armed)
-    (all : HoldsAll board.memory spans) (disk : SimDisk) (variables : Table) where
+    (all : HoldsAll board.memory spans) (disk : Simulated) (variables : Table) where
   abbrev before : DigestPlatform
   before = platform_with armed board spans disk variables
 
@@ -227,12 +265,12 @@ module _ (board : BoardParts) (spans : List Span) (image inputs nonce : List ℕ
   -- a session that ended so on the device
   abbrev ended_so : ℕ → Fused DigestDevice × Option PalEnd → DigestPlatform × Answer
   ended_so first (left, None) =
-      (platform_with [] (powered (record { device = left.state; marks = board.memory.marks })) spans disk variables, Refused PowerLost)
+      (platform_with [] (powered (record { device = left.state; marks = board.memory.marks })) spans (cycled 0 [] disk) variables, Refused PowerLost)
   ended_so first (left, Some ended) =
       (platform_with [] (board_after board first left ended.outside.bytes) spans disk variables, Ended (session_over ended))
 
   settled_is : (first : ℕ) (ran : Fused DigestDevice × Option PalEnd)
-      → settled disk w (then_fused costs (act digests) (λ ended. Return (after_session first ended None w, Ended (session_over ended))) ran)
+      → settled w (then_fused any_costs machine (λ ended. Return (after_session first ended None w, Ended (session_over ended))) (beside disk ran))
       ≡ ended_so first ran
   settled_is first (left, None) = refl
   settled_is first (left, Some ended) = refl
@@ -244,12 +282,11 @@ module _ (board : BoardParts) (spans : List Span) (image inputs nonce : List ℕ
       (permits_agree memory board.memory first all.stands free)
 
   ran_step : (first : ℕ) → IsPlace board.memory.marks 18 16 first
-      → after_outcome disk (run (act digests) (with_stop w board.fuse (session_task (RunsAt first) image inputs nonce None w)) board.device)
+      → after_outcome (run machine (with_stop w board.fuse (session_task (RunsAt first) image inputs nonce None w)) (board.device, disk))
       ≡ ended_so first (ran_at board first image inputs nonce armed)
   ran_step first free =
-      stop_settled disk w (session_task (RunsAt first) image inputs nonce None w) (fused_device board)
-      ∙ ap (settled disk w) (fused-bind costs (act digests) (session_plan (setting_around memory first image inputs) image inputs nonce armed)
-      (λ ended. Return (after_session first ended None w, Ended (session_over ended))) (fused_device board))
+      device_then (session_plan (setting_around memory first image inputs) image inputs nonce armed)
+      (λ ended. (after_session first ended None w, Ended (session_over ended))) w disk (fused_device board)
       ∙ settled_is first (on_device (session_plan (setting_around memory first image inputs) image inputs nonce armed) (fused_device board))
       ∙ ap (λ setting. ended_so first (on_device (session_plan setting image inputs nonce armed) (fused_device board))) (same_setting first free)
 
@@ -257,12 +294,12 @@ module _ (board : BoardParts) (spans : List Span) (image inputs nonce : List ℕ
   abbrev pub stepped : Result (BoardParts × SessionEnd) DarkParts → List Armed → List ℕ → DigestPlatform × Answer
   stepped (Ok (after, end)) left out =
       (platform_with (armed_after end left) after spans disk variables, answer_to_end end left out)
-  stepped (Err dark) left out = (platform_with [] (powered dark) spans disk variables, Refused PowerLost)
+  stepped (Err dark) left out = (platform_with [] (powered dark) spans (cycled 0 [] disk) variables, Refused PowerLost)
 
   -- what the task does, by its course
   abbrev by_course : Course → DigestPlatform × Answer
   by_course course =
-      after_outcome disk (run (act digests) (with_stop w board.fuse (session_task course image inputs nonce None w)) board.device)
+      after_outcome (run machine (with_stop w board.fuse (session_task course image inputs nonce None w)) (board.device, disk))
 
   abbrev IsStep : Course → Type 0
   IsStep course =
@@ -375,21 +412,20 @@ bound_too (Some name) end = (
 module _ (p : DigestPlatform) (image inputs nonce : List ℕ) where
   abbrev step_by : Course → Option (List ℕ) → DigestPlatform × Answer
   step_by course var =
-      after_outcome p.disk (run (act digests) (with_stop p.around p.fuse (session_task course image inputs nonce var p.around)) p.device)
+      after_outcome (run machine (with_stop p.around p.fuse (session_task course image inputs nonce var p.around)) (p.device, p.disk))
 
   abbrev plan_at : ℕ → Plan Command Reply PalEnd
   plan_at first = session_plan (setting_around p.around.memory first image inputs) image inputs nonce p.around.armed
 
   abbrev settled_with : ℕ → Option (List ℕ) → Fused DigestDevice × Option PalEnd → DigestPlatform × Answer
   settled_with first var ran =
-      settled p.disk p.around (then_fused costs (act digests) (λ ended. Return (after_session first ended var p.around, Ended (session_over ended))) ran)
+      settled p.around (then_fused any_costs machine (λ ended. Return (after_session first ended var p.around, Ended (session_over ended))) (beside p.disk ran))
 
   step_at : (first : ℕ) (var : Option (List ℕ))
       → step_by (RunsAt first) var ≡ settled_with first var (on_device (plan_at first) (with_fuse p.device p.fuse))
   step_at first var =
-      stop_settled p.disk p.around (session_task (RunsAt first) image inputs nonce var p.around) (with_fuse p.device p.fuse)
-      ∙ ap (settled p.disk p.around) (fused-bind costs (act digests) (plan_at first)
-      (λ ended. Return (after_session first ended var p.around, Ended (session_over ended))) (with_fuse p.device p.fuse))
+      device_then (plan_at first) (λ ended. (after_session first ended var p.around, Ended (session_over ended)))
+      p.around p.disk (with_fuse p.device p.fuse)
 
   binds_then : (first : ℕ) (var : Option (List ℕ)) (ran : Fused DigestDevice × Option PalEnd)
       → settled_with first var ran ≡ bound_too var (settled_with first None ran)

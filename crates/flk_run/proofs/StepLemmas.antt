@@ -24,7 +24,7 @@ use Rattle.machine_memory.specs.HostMemory.{HostSpan, HostMemory, place, starts_
 use Rattle.flk_run.specs.Answers.{Answer, Done, Counts, Shows, Refused}
 use Rattle.flk_run.specs.Events.{span_taken, span_given, written_by_host, bytes_shown, written_by_device}
 use Rattle.seal_device.specs.Digests.{digests}
-use Rattle.flk_run.specs.declared.disk.SimDisk.{SimDisk}
+use Rattle.job_store.specs.Simulated.{Simulated}
 use Rattle.flk_run.specs.Platform as platforms
 use Rattle.flk_run.specs.Parts.{HoldsSpans, as_host, host_span, MemoryStands, HoldsAll, IsHost, host_memory, platform_of, known_if}
 use Rattle.late_launch.specs.Boards.{blank_board}
@@ -121,7 +121,7 @@ all_free_marks : (n : ℕ) → list_all is_free (replicate n mark.Free) ≡ true
 all_free_marks zero = refl
 all_free_marks (suc n) = all_free_marks n
 
-pub blank_known : (disk : SimDisk)
+pub blank_known : (disk : Simulated)
     → known_if (is_untaken blank) (platform_of blank_board [] disk empty)
     ≡ Some (platforms.blank digests disk)
 blank_known disk = rw (all_free_marks frame_count) refl

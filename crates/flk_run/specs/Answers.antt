@@ -9,7 +9,7 @@ use Rattle.late_launch.specs.declared.ends.End.TheVariants as ends
 use Rattle.late_launch.specs.Ends.{fault_number as kind_number, refusal_number}
 use Rattle.flk_run.specs.declared.answers.TheConstants.{LINE_ROOM, REGISTER_ROOM, SESSION_ROOM}
 use Rattle.flk_run.specs.declared.answers.Refusal.{Refusal}
-use Rattle.flk_run.specs.declared.answers.Refusal.TheVariants.{NoRegister, NoValue, NoImage, NoRoom, NoSpan, NoTaken, NoLong, NoBlocked, NoNonce, NoInput, NoPlace, NoSeeded, NoSeed, NoBlob, NoChain, NoCounter, NoEnd, PowerLost}
+use Rattle.flk_run.specs.declared.answers.Refusal.TheVariants.{NoRegister, NoValue, NoImage, NoRoom, NoSpan, NoTaken, NoLong, NoBlocked, NoNonce, NoInput, NoPlace, NoSeeded, NoSeed, NoBlob, NoChain, NoCounter, NoEnd, NoSlot, NoDisk, PowerLost}
 
 -- how a session ended: after how many turns, how many device writes were done, were blocked and are
 -- left, and its outputs
@@ -58,6 +58,8 @@ refusal_text NoBlob = codes "no blob"
 refusal_text NoChain = codes "no chain"
 refusal_text NoCounter = codes "no counter"
 refusal_text NoEnd = codes "no end"
+refusal_text NoSlot = codes "no slot"
+refusal_text NoDisk = codes "no disk"
 refusal_text PowerLost = codes "power lost"
 
 -- numbers, each after a space

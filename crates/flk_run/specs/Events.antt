@@ -1,4 +1,4 @@
--- What an event answers, and what there is after it: a plan over the commands of the device.
+-- What an event answers, and what there is after it: a plan over commands to the device and to the disk.
 use Rattle.std.specs.List.{list_all, range_with_len}
 use Rattle.std.specs.Prelude.{ℕ, ◌+◌, ◌==◌, ◌||◌, count_by, Bool, List, [], ◌∷◌, ◌++◌, length, find, codes, Option, Some, None, Result, Ok, Err, if◌then◌else◌}
 use Rattle.flk_base.specs.Plan.{Plan, Return, ask, ◌>>=◌, run}
@@ -8,7 +8,7 @@ use Rattle.tpm_state.specs.Sessions.{Session, session_chain}
 use Rattle.seal_device.specs.Quoted.{Quoted}
 use Rattle.seal_device.specs.Rules.{Device, Rules}
 use Rattle.seal_device.specs.Commands as command
-use Rattle.seal_device.specs.Commands.{Command, Reply, costs, act}
+use Rattle.seal_device.specs.Commands.{Command, Reply, act}
 use Rattle.seal_device.specs.Refusals.Register as registers
 use Rattle.seal_device.specs.Refusals.Seed as seeds
 use Rattle.seal_device.specs.Refusals.Unseal as unseals
@@ -26,12 +26,15 @@ use Rattle.session_driver.specs.Sessions.{area_frames, area_alignment, setting_w
 use Rattle.session_driver.specs.Answers as session
 use Rattle.session_driver.specs.Answers.{Course, IsRefused, RunsAt, course_at}
 use Rattle.flk_run.specs.declared.answers.Refusal.{Refusal}
-use Rattle.flk_run.specs.declared.answers.Refusal.TheVariants.{NoRegister, NoImage, NoRoom, NoSpan, NoTaken, NoBlocked, NoInput, NoPlace, NoSeeded, NoSeed, NoBlob, NoChain, NoCounter, NoEnd, PowerLost}
-use Rattle.flk_run.specs.declared.disk.SimDisk.{SimDisk}
+use Rattle.flk_run.specs.declared.answers.Refusal.TheVariants.{NoRegister, NoImage, NoRoom, NoSpan, NoTaken, NoBlocked, NoInput, NoPlace, NoSeeded, NoSeed, NoBlob, NoChain, NoCounter, NoEnd, NoDisk, PowerLost}
+use Rattle.job_store.specs.Simulated.{Simulated}
+use Rattle.job_store.specs.declared.disk.DiskFailed.{DiskFailed}
+use Rattle.job_store.specs.Commands as slots
+use Rattle.job_engine.specs.Commands.{AnyCommand, ToDevice, ToSlots, CyclePower, AnyReply, any_costs, any_act, to_device}
 use Rattle.flk_run.specs.Answers.{SessionOver, Answer, Quiet, Done, Counts, Shows, Registers, Ended, Says, Refused, line_of}
 use Rattle.machine_memory.specs.HostMemory.{HostMemory, HostSpan, is_taken, place, starts_at, are_taken, are_open, with_span, without_span, with_bytes}
 use Rattle.flk_run.specs.Platform.{Around, Platform, with_name, with_name_if, with_register, with_armed, with_memory, after_power_on}
-use Rattle.flk_run.specs.Tasks.{Task, Rest, Refuse, Extend, Read, Bind, Show, BindImage, Take, Give, Poke, Peek, Dma, SetRegister, ShowRegisters, Arm, RunSession, Seed, Unseal, ReadCounter, Draw, Quote, Check, task_of}
+use Rattle.flk_run.specs.Tasks.{Task, Rest, Refuse, Extend, Read, Bind, Show, BindImage, Take, Give, Poke, Peek, Dma, SetRegister, ShowRegisters, Arm, RunSession, Seed, Unseal, ReadCounter, Draw, Quote, Check, ReadSlot, Overwrite, task_of}
 
 -- ---- what memory is after an event, and the answer
 
@@ -119,10 +122,10 @@ after_session first ended var w =
 
 -- the session's plan
 abbrev pub session_task : Course → List ℕ → List ℕ → List ℕ → Option (List ℕ) → Around
-    → Plan Command Reply (Around × Answer)
+    → Plan AnyCommand AnyReply (Around × Answer)
 session_task (IsRefused why) image inputs nonce var w = Return (w, Refused (session_refusal why))
 session_task (RunsAt first) image inputs nonce var w =
-    session_plan (setting_around w.memory first image inputs) image inputs nonce w.armed
+    to_device (session_plan (setting_around w.memory first image inputs) image inputs nonce w.armed)
     >>= λ ended. Return (after_session first ended var w, Ended (session_over ended))
 
 -- ---- the plan of a task
@@ -187,17 +190,36 @@ abbrev pub check_answer : Result Bool quotes.Refusal → Answer
 check_answer (Ok told) = Says told
 check_answer (Err quotes.Unprovisioned) = Refused NoSeed
 
--- one command, and the answer to its reply; what is around stays
+-- the blob of a slot is shown, and the name is bound to it, where there is one
+abbrev pub after_read_slot : Option (List ℕ) → Result (Option (List ℕ)) DiskFailed → Around → Around × Answer
+after_read_slot var (Ok (Some blob)) w = (with_name_if var blob w, Shows blob)
+after_read_slot var (Ok None) w = (w, Refused NoBlob)
+after_read_slot var (Err failed) w = (w, Refused NoDisk)
+
+-- a blob is written into a slot, and the disk is synced once that is done
+abbrev pub sync_if : Result (Unit {0}) DiskFailed → Plan AnyCommand AnyReply (Result (Unit {0}) DiskFailed)
+sync_if (Ok written) = ask (ToSlots slots.SyncSlots)
+sync_if (Err failed) = Return (Err failed)
+
+abbrev pub overwrites : ℕ → ℕ → List ℕ → Plan AnyCommand AnyReply (Result (Unit {0}) DiskFailed)
+overwrites j s blob = ask (ToSlots (slots.WriteSlot j s blob)) >>= sync_if
+
+-- what is answered to it
+abbrev pub overwrite_answer : Result (Unit {0}) DiskFailed → Answer
+overwrite_answer (Ok done) = Done
+overwrite_answer (Err failed) = Refused NoDisk
+
+-- one command to the device, and the answer to its reply; what is around stays
 abbrev pub answering : (c : Command) → (Reply c → Answer) → Around
-    → Plan Command Reply (Around × Answer)
-answering c answer_of w = ask c >>= λ reply. Return (w, answer_of reply)
+    → Plan AnyCommand AnyReply (Around × Answer)
+answering c answer_of w = ask (ToDevice c) >>= λ reply. Return (w, answer_of reply)
 
 -- memory as an event leaves it, and its answer
-abbrev pub in_memory : HostMemory × Answer → Around → Plan Command Reply (Around × Answer)
+abbrev pub in_memory : HostMemory × Answer → Around → Plan AnyCommand AnyReply (Around × Answer)
 in_memory end w = Return (with_memory end.0 w, end.1)
 
 -- a task: what it leaves around the device, and its answer
-abbrev pub plan_of : Task → Around → Plan Command Reply (Around × Answer)
+abbrev pub plan_of : Task → Around → Plan AnyCommand AnyReply (Around × Answer)
 plan_of Rest w = Return (w, Quiet)
 plan_of (Refuse why) w = Return (w, Refused why)
 plan_of (Extend r text) w = answering (command.Extend r (host_prefix ++ text)) extend_answer w
@@ -216,12 +238,15 @@ plan_of (Arm turn at bytes) w = Return (with_armed turn at bytes w, Done)
 plan_of (RunSession image inputs nonce var) w =
     session_task (course_around w.memory image inputs) image inputs nonce var w
 plan_of (Seed seed) w = answering (command.Provision seed) seed_answer w
-plan_of (Unseal blob var) w = ask (command.Unseal blob) >>= λ reply. Return (after_unseal var reply w)
+plan_of (Unseal blob var) w = ask (ToDevice (command.Unseal blob)) >>= λ reply. Return (after_unseal var reply w)
 plan_of (ReadCounter id) w = answering (command.ReadCounter id) counter_answer w
-plan_of (Draw var) w = ask command.Random >>= λ reply. Return (after_draw var reply w)
-plan_of (Quote nonce var) w = ask (command.Quote nonce) >>= λ reply. Return (after_quote var reply w)
+plan_of (Draw var) w = ask (ToDevice command.Random) >>= λ reply. Return (after_draw var reply w)
+plan_of (Quote nonce var) w = ask (ToDevice (command.Quote nonce)) >>= λ reply. Return (after_quote var reply w)
 plan_of (Check session quote) w =
     answering (command.Check (claim_of session) quote) check_answer w
+plan_of (ReadSlot j s var) w =
+    ask (ToSlots (slots.ReadSlot j s)) >>= λ reply. Return (after_read_slot var reply w)
+plan_of (Overwrite j s blob) w = overwrites j s blob >>= λ done. Return (w, overwrite_answer done)
 
 -- ---- events
 
@@ -231,35 +256,41 @@ pub record Outcome : Type 0 where
   pub fuse : Limit
   pub answer : Answer
 
--- how a plan with a fuse is settled: by its value, or, where the power was lost, by its coming back
-abbrev pub settlement : Around → Limit × Option (Around × Answer) → Plan Command Reply Outcome
+-- how a plan with a fuse is settled: by its value, or, where the power was lost, by its coming back,
+-- after which the disk keeps nothing that was not synced
+abbrev pub settlement : Around → Limit × Option (Around × Answer) → Plan AnyCommand AnyReply Outcome
 settlement w (left, Some end) = Return (record { around = end.0; fuse = left; answer = end.1 })
 settlement w (left, None) =
-    ask command.PowerOn >>= λ done.
+    ask (CyclePower 0 []) >>= λ done.
     Return (record { around = after_power_on w; fuse = None; answer = Refused PowerLost })
 
 -- a plan that the fuse may stop, settled
-abbrev pub with_stop : Around → Limit → Plan Command Reply (Around × Answer)
-    → Plan Command Reply Outcome
-with_stop w fuse plan = limited costs plan fuse >>= settlement w
+abbrev pub with_stop : Around → Limit → Plan AnyCommand AnyReply (Around × Answer)
+    → Plan AnyCommand AnyReply Outcome
+with_stop w fuse plan = limited any_costs plan fuse >>= settlement w
 
 -- an event: its expressions first, then its task
-abbrev pub event : Around → Limit → Request → Plan Command Reply Outcome
+abbrev pub event : Around → Limit → Request → Plan AnyCommand AnyReply Outcome
 event w fuse request = with_stop w fuse (plan_of (task_of request w.variables) w)
 
--- the platform after an outcome, beside this disk, and the answer
-abbrev pub after_outcome : {H M : Type 0} → SimDisk → Device H M × Outcome → Platform H M × Answer
-after_outcome disk end =
-    (record { device = end.0; disk = disk; around = end.1.around; fuse = end.1.fuse }, end.1.answer)
+-- the platform after an outcome, and the answer
+abbrev pub after_outcome : {H M : Type 0} → (Device H M × Simulated) × Outcome → Platform H M × Answer
+after_outcome end =
+    (record { device = end.0.0; disk = end.0.1; around = end.1.around; fuse = end.1.fuse }, end.1.answer)
+
+-- a plan on the device and the disk of a platform
+abbrev pub run_on : {H M X : Type 0} → Rules H M → Plan AnyCommand AnyReply X → Platform H M
+    → (Device H M × Simulated) × X
+run_on R plan p = run (any_act (act R)) plan (p.device, p.disk)
 
 -- a task on a platform
 abbrev pub task_step : {H M : Type 0} → Rules H M → Task → Platform H M → Platform H M × Answer
 task_step R task p =
-    after_outcome p.disk (run (act R) (with_stop p.around p.fuse (plan_of task p.around)) p.device)
+    after_outcome (run_on R (with_stop p.around p.fuse (plan_of task p.around)) p)
 
 -- an event on a platform
 abbrev pub step : {H M : Type 0} → Rules H M → Request → Platform H M → Platform H M × Answer
-step R request p = after_outcome p.disk (run (act R) (event p.around p.fuse request) p.device)
+step R request p = after_outcome (run_on R (event p.around p.fuse request) p)
 
 -- the platform after an event
 abbrev pub after : {H M : Type 0} → Rules H M → Request → Platform H M → Platform H M
@@ -293,7 +324,7 @@ abbrev pub answered_first : Answer → Outcomes → Outcomes
 answered_first answer end = record end { answers = answer ∷ end.answers }
 
 -- a script: each event, and then the rest from where it left what is around
-abbrev pub script : Around → Limit → List Request → Plan Command Reply Outcomes
+abbrev pub script : Around → Limit → List Request → Plan AnyCommand AnyReply Outcomes
 script w fuse [] = Return (record { around = w; fuse = fuse; answers = [] })
 script w fuse (request ∷ requests) =
     event w fuse request >>= λ end.
@@ -305,6 +336,6 @@ lines_of n [] = []
 lines_of n (answer ∷ answers) = line_of n answer ++ lines_of (n + 1) answers
 
 -- the platform that a script leaves
-abbrev pub after_outcomes : {H M : Type 0} → SimDisk → Device H M × Outcomes → Platform H M
-after_outcomes disk end =
-    record { device = end.0; disk = disk; around = end.1.around; fuse = end.1.fuse }
+abbrev pub after_outcomes : {H M : Type 0} → (Device H M × Simulated) × Outcomes → Platform H M
+after_outcomes end =
+    record { device = end.0.0; disk = end.0.1; around = end.1.around; fuse = end.1.fuse }

@@ -1,4 +1,4 @@
--- What contracts see of a board, a disk and a runner, and of the marks of memory.
+-- What contracts see of a host and a runner, and of the marks of memory.
 use Rattle.std.specs.Prelude.{◌≡◌, ℕ, ◌<◌, List, [], ◌∷◌, length, map, Bool, true, false, slice_get, Option, Some, None}
 use Rattle.std.specs.List.{AllByRecursion}
 use Rattle.std.specs.Coded.{Coded, coded_list, coded_ℕ}
@@ -12,7 +12,7 @@ use Rattle.machine_memory.specs.Contents.{Contents, frame_count}
 use Rattle.machine_memory.specs.ArmedWrites.{Armed}
 use Rattle.late_launch.specs.Boards.{BoardParts, fallen, powered}
 use Rattle.expr_text.specs.Variables.{Table}
-use Rattle.flk_run.specs.declared.disk.SimDisk.{SimDisk}
+use Rattle.job_store.specs.Simulated.{Simulated}
 use Rattle.machine_memory.specs.HostMemory.{HostMemory, HostSpan, is_taken}
 use Rattle.flk_run.specs.Platform.{DigestPlatform}
 
@@ -25,10 +25,6 @@ pub record KeepsDevice (old new : BoardParts) : Type 0 where
   pub device : new.device ≡ old.device
   pub registers : new.registers ≡ old.registers
   pub fuse : new.fuse ≡ old.fuse
-
--- a disk after power-on: it has no contents yet
-abbrev pub blank_disk : SimDisk
-blank_disk = record {}
 
 -- ---- spans
 
@@ -81,10 +77,11 @@ pub record IsHost (untaken : Bool) (memory : Contents) (spans : List Span) : Typ
   pub held : HoldsSpans memory.marks spans
   pub all : untaken ≡ true → HoldsAll memory spans
 
--- a host: its board, the spans that it holds, whether memory held none when it came, the device
--- writes that are armed, and for how many more tickets there is room
+-- a host: its board, its disk, the spans that it holds, whether memory held none when it came, the
+-- device writes that are armed, and for how many more tickets there is room
 pub record HostParts : Type 0 where
   pub board : BoardParts
+  pub disk : Simulated
   pub spans : List Span
   pub untaken : Bool
   pub armed : List Armed
@@ -98,7 +95,7 @@ table_code = finite.code (coded_list coded_ℕ) (coded_list coded_ℕ)
 
 -- the platform of a board, of whose memory the host holds these spans, and for whose next session
 -- these writes are armed, beside this disk, with these variables
-abbrev pub platform_with : List Armed → BoardParts → List Span → SimDisk → Table → DigestPlatform
+abbrev pub platform_with : List Armed → BoardParts → List Span → Simulated → Table → DigestPlatform
 platform_with armed board spans disk variables = record {
   device = board.device;
   disk = disk;
@@ -112,7 +109,7 @@ platform_with armed board spans disk variables = record {
 }
 
 -- the same with no write armed
-abbrev pub platform_of : BoardParts → List Span → SimDisk → Table → DigestPlatform
+abbrev pub platform_of : BoardParts → List Span → Simulated → Table → DigestPlatform
 platform_of board spans disk variables = platform_with [] board spans disk variables
 
 -- the platform, where it is known; it is where memory held no span when the host came
@@ -122,24 +119,24 @@ known_if false p = None
 
 -- ---- runners
 
--- what contracts see of a runner: its board, the spans that it holds, whether memory held none when
--- it was made, the device writes that are armed, the disk and the variables
+-- what contracts see of a runner: its board, its disk, the spans that it holds, whether memory held
+-- none when it was made, the device writes that are armed, and the variables
 pub record Experiment : Type 0 where
   pub board : BoardParts
+  pub disk : Simulated
   pub spans : List Span
   pub untaken : Bool
   pub armed : List Armed
-  pub disk : SimDisk
   pub variables : Table
 
--- the runner of a host, beside this disk, with these variables
-abbrev pub experiment : HostParts → SimDisk → Table → Experiment
-experiment host disk variables = record {
+-- the runner of a host, with these variables
+abbrev pub experiment : HostParts → Table → Experiment
+experiment host variables = record {
   board = host.board;
+  disk = host.disk;
   spans = host.spans;
   untaken = host.untaken;
   armed = host.armed;
-  disk = disk;
   variables = variables;
 }
 

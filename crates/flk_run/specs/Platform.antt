@@ -13,7 +13,7 @@ use Rattle.i386_profile.specs.declared.cpu.Cpu.{Cpu}
 use Rattle.machine_memory.specs.Contents.{zero_bytes}
 use Rattle.machine_memory.specs.ArmedWrites.{Armed}
 use Rattle.late_launch.specs.Boards.{zero_registers}
-use Rattle.flk_run.specs.declared.disk.SimDisk.{SimDisk}
+use Rattle.job_store.specs.Simulated.{Simulated}
 use Rattle.machine_memory.specs.HostMemory.{HostMemory, blank_memory}
 
 -- what is around the device, and the same on every platform: memory with the host's spans, the host's
@@ -29,7 +29,7 @@ pub record Around : Type 0 where
 -- fuse says how many commands are left before the power is lost
 pub record Platform (H M : Type 0) : Type 0 where
   pub device : Device H M
-  pub disk : SimDisk
+  pub disk : Simulated
   pub around : Around
   pub fuse : Limit
 
@@ -52,7 +52,7 @@ blank_around =
     record { memory = blank_memory; registers = zero_registers; armed = []; variables = empty }
 
 -- a platform that was never used, beside this disk
-abbrev pub blank : {H M : Type 0} → Rules H M → SimDisk → Platform H M
+abbrev pub blank : {H M : Type 0} → Rules H M → Simulated → Platform H M
 blank R disk = record { device = unused_device R; disk = disk; around = blank_around; fuse = None }
 
 -- with a name bound to a value

@@ -1,5 +1,5 @@
 -- How clauses see what the code holds while it does an event.
-use Rattle.std.specs.Prelude.{◌≡◌, ◌≤◌, length, map, Bool, true, false, [], Some}
+use Rattle.std.specs.Prelude.{◌≡◌, ◌≤◌, ◌<◌, length, map, Bool, true, false, [], Some}
 use Rattle.std.specs.Option.{option_map, IfSome}
 use Rattle.seal_device.specs.Digests.{digests}
 use Rattle.script_text.specs.Seen.{IsShortName}
@@ -7,7 +7,7 @@ use Rattle.expr_text.specs.declared.value.TheConstants.{LONGEST_VALUE}
 use Rattle.expr_text.specs.Variables.{Table}
 use Rattle.flk_base.specs.declared.buffer.Bytes.{Bytes}
 use Rattle.tpm_state.specs.Sessions.{Session}
-use Rattle.flk_run.specs.declared.disk.SimDisk.{SimDisk}
+use Rattle.job_store.specs.declared.sizes.TheConstants.{JOBS, LONGEST_BLOB}
 use Rattle.flk_run.specs.declared.answers.TheConstants.{LONGEST_OUTPUTS}
 use Rattle.flk_run.specs.declared.answers.Answer.{Answer as HeldAnswer}
 use Rattle.flk_run.specs.declared.answers.Answer.TheVariants as answer
@@ -16,8 +16,9 @@ use Rattle.flk_run.specs.declared.tasks.Task.{Task as HeldTask}
 use Rattle.flk_run.specs.declared.tasks.Task.TheVariants as held
 use Rattle.flk_run.specs.Answers.{Answer, Quiet, Done, Counts, Shows, Registers, Ended, Says, Refused}
 use Rattle.flk_run.specs.Events.{task_step}
+use Rattle.flk_run.specs.Platform.{DigestPlatform}
 use Rattle.flk_run.specs.Parts.{HostParts, platform_with}
-use Rattle.flk_run.specs.Tasks.{Task, Rest, Refuse, Extend, Read, Bind, Show, BindImage, Take, Give, Poke, Peek, Dma, SetRegister, ShowRegisters, Arm, RunSession, Seed, Unseal, ReadCounter, Draw, Quote, Check}
+use Rattle.flk_run.specs.Tasks.{Task, Rest, Refuse, Extend, Read, Bind, Show, BindImage, Take, Give, Poke, Peek, Dma, SetRegister, ShowRegisters, Arm, RunSession, Seed, Unseal, ReadCounter, Draw, Quote, Check, ReadSlot, Overwrite}
 
 -- the session that is described to a check
 abbrev pub seen_session : CheckTask → Session
@@ -57,6 +58,9 @@ seen_task (held.ReadCounter id) = ReadCounter id
 seen_task (held.Draw bound) = Draw (option_map (λ bound. bound.name.now) bound)
 seen_task (held.Quote nonce bound) = Quote nonce (option_map (λ bound. bound.name.now) bound)
 seen_task (held.Check check) = Check (seen_session check) check.quote.bytes
+seen_task (held.ReadSlot slot) =
+    ReadSlot slot.j slot.s (option_map (λ bound. bound.name.now) slot.bound)
+seen_task (held.Overwrite j s blob) = Overwrite j s blob.bytes
 
 -- the name that a task binds has 1 to 16 bytes
 abbrev pub IsNamed : Task → Type 0
@@ -66,25 +70,34 @@ IsNamed (RunSession image inputs nonce (Some name)) = IsShortName name
 IsNamed (Unseal blob (Some name)) = IsShortName name
 IsNamed (Draw (Some name)) = IsShortName name
 IsNamed (Quote nonce (Some name)) = IsShortName name
+IsNamed (ReadSlot j s (Some name)) = IsShortName name
 IsNamed _ = Unit {0}
 
--- there is room for the outputs of a session, or for what was sealed in a blob, and nothing stands
--- in it
+-- there is room for the outputs of a session, for what was sealed in a blob, or for the blob of a slot,
+-- and nothing stands in it
 pub record IsRoom (room : Bytes) : Type 0 where
   pub none : room.bytes ≡ []
   pub enough : LONGEST_OUTPUTS ≤ room.spare
 
--- a task that runs a session has room for its outputs, and one that unseals a blob for what was sealed
--- in it: for showing them, and for the name that it binds; one that draws a random word or quotes has
+-- a task that runs a session has room for its outputs, one that unseals a blob for what was sealed in
+-- it, and one that reads a slot for its blob: for showing them, and for the name that it binds; one that draws a random word or quotes has
 -- room for the name alone
 abbrev pub HasRoom : HeldTask → Type 0
 HasRoom (held.RunSession session) =
     IsRoom session.outputs × IfSome session.bound (λ bound. IsRoom bound.value)
 HasRoom (held.Unseal unseal) =
     IsRoom unseal.bytes × IfSome unseal.bound (λ bound. IsRoom bound.value)
+HasRoom (held.ReadSlot slot) =
+    IsRoom slot.bytes × IfSome slot.bound (λ bound. IsRoom bound.value)
 HasRoom (held.Draw bound) = IfSome bound (λ bound. IsRoom bound.value)
 HasRoom (held.Quote nonce bound) = IfSome bound (λ bound. IsRoom bound.value)
 HasRoom other = Unit {0}
+
+-- the slot that a task reads or writes is one of the disk's, and has room for the blob
+abbrev pub HasSlot : Task → Type 0
+HasSlot (ReadSlot j s var) = (j < JOBS) × (s < 2)
+HasSlot (Overwrite j s blob) = (j < JOBS) × (s < 2) × (length blob ≤ LONGEST_BLOB)
+HasSlot _ = Unit {0}
 
 -- what a task shows has at most 65,536 bytes
 abbrev pub IsShown : Task → Type 0
@@ -100,6 +113,7 @@ binds (RunSession image inputs nonce (Some name)) = true
 binds (Unseal blob (Some name)) = true
 binds (Draw (Some name)) = true
 binds (Quote nonce (Some name)) = true
+binds (ReadSlot j s (Some name)) = true
 binds _ = false
 
 -- a task takes a span
@@ -146,11 +160,12 @@ abbrev pub IsShortShown : Answer → Type 0
 IsShortShown (Shows bytes) = length bytes ≤ LONGEST_OUTPUTS
 IsShortShown other = Unit {0}
 
--- a host whose platform is known did the task as the platform does, whatever the disk and the
--- variables
+-- the platform of a host, with these variables
+abbrev pub platform_at : HostParts → Table → DigestPlatform
+platform_at host variables = platform_with host.armed host.board host.spans host.disk variables
+
+-- a host whose platform is known did the task as the platform does, whatever the variables
 abbrev pub Steps : Task → HostParts → HostParts → HeldAnswer → Type 0
 Steps task before after answer =
-    (disk : SimDisk) (variables : Table) →
-    (platform_with after.armed after.board after.spans disk variables, seen_answer answer)
-    ≡ task_step digests task
-    (platform_with before.armed before.board before.spans disk variables)
+    (variables : Table) →
+    (platform_at after variables, seen_answer answer) ≡ task_step digests task (platform_at before variables)

@@ -1,20 +1,21 @@
 -- What an event comes to once its expressions have their values, which is first.
-use Rattle.std.specs.Prelude.{ℕ, ◌+◌, ◌*◌, ◌==◌, nat_le, nat_lt, List, [], ◌∷◌, length, Option, Some, None, Result, Ok, Err, IsOk, if◌then◌else◌}
+use Rattle.std.specs.Prelude.{ℕ, ◌+◌, ◌*◌, ◌==◌, ◌&&◌, nat_le, nat_lt, Bool, List, [], ◌∷◌, length, Option, Some, None, Result, Ok, Err, IsOk, if◌then◌else◌}
 use Rattle.flk_base.specs.Checks.{◌>>=◌}
 use Rattle.tpm_state.specs.Sessions.{Session}
 use Rattle.expr_text.specs.Expressions.{Term}
 use Rattle.expr_text.specs.Variables.{Table}
 use Rattle.expr_text.specs.Values.{value_of}
 use Rattle.expr_text.specs.declared.value.TheConstants.{LONGEST_VALUE}
-use Rattle.script_text.specs.Grammar.{Request, Nothing, ExtendBy, ReadOf, LetBe, ShowOf, ImageOf, TakeOf, GiveAt, PokeAt, PeekAt, DmaAt, SetRegOf, RegsOf, ArmAt, SessionOf, SeedOf, UnsealOf, CounterOf, RandomOf, QuoteOf, CheckOf}
+use Rattle.script_text.specs.Grammar.{Request, Nothing, ExtendBy, ReadOf, LetBe, ShowOf, ImageOf, TakeOf, GiveAt, PokeAt, PeekAt, DmaAt, SetRegOf, RegsOf, ArmAt, SessionOf, SeedOf, UnsealOf, CounterOf, RandomOf, QuoteOf, CheckOf, SlotOf, OverwriteOf}
 use Rattle.expr_text.specs.declared.value.ExprFault.{ExprFault}
 use Rattle.slb_image.specs.Image.{pack}
 use Rattle.slb_image.specs.Faults.{build_fault}
 use Rattle.slb_image.specs.declared.fault.ImageFault.{ImageFault}
-use Rattle.flk_run.specs.declared.answers.TheConstants.{LINE_ROOM, REGISTER_ROOM, QUOTE_ROOM, UNSEAL_ROOM, SESSION_ROOM}
+use Rattle.job_store.specs.declared.sizes.TheConstants.{JOBS, LONGEST_BLOB}
+use Rattle.flk_run.specs.declared.answers.TheConstants.{LINE_ROOM, REGISTER_ROOM, QUOTE_ROOM, UNSEAL_ROOM, SLOT_ROOM, SESSION_ROOM}
 use Rattle.flk_run.specs.declared.tasks.TheConstants.{NONCE_LEN}
 use Rattle.flk_run.specs.declared.answers.Refusal.{Refusal}
-use Rattle.flk_run.specs.declared.answers.Refusal.TheVariants.{NoValue, NoImage, NoLong, NoNonce, NoCounter, NoEnd}
+use Rattle.flk_run.specs.declared.answers.Refusal.TheVariants.{NoValue, NoImage, NoLong, NoNonce, NoCounter, NoEnd, NoSlot}
 
 -- nothing; to answer a refusal; to extend a register by a text; to read one; to bind a name to a
 -- value; to show a value; to bind a name to an image, and to answer how long it is; to take a span of
@@ -22,8 +23,9 @@ use Rattle.flk_run.specs.declared.answers.Refusal.TheVariants.{NoValue, NoImage,
 -- bytes; to set a register of the processor, to show all, to arm a device write for a turn of the
 -- next session, or to run a session, and to bind a name to its outputs; to give the device a seed, to
 -- unseal a blob, and to bind a name to what was sealed in it; to read a counter; to draw a random
--- word, and to bind a name to it; to quote register 17 for a nonce, and to bind a name to the quote; or
--- to check whether bytes are the quote of a session
+-- word, and to bind a name to it; to quote register 17 for a nonce, and to bind a name to the quote; to
+-- check whether bytes are the quote of a session; to show the blob in a slot of the disk, and to bind a
+-- name to it; or to write a blob into one
 pub data Task : Type 0 where
   Rest : Task
   Refuse : (why : Refusal) → Task
@@ -47,6 +49,8 @@ pub data Task : Type 0 where
   Draw : (var : Option (List ℕ)) → Task
   Quote : (nonce : List ℕ) → (var : Option (List ℕ)) → Task
   Check : (session : Session) → (quote : List ℕ) → Task
+  ReadSlot : (j s : ℕ) → (var : Option (List ℕ)) → Task
+  Overwrite : (j s : ℕ) → (blob : List ℕ) → Task
 
 -- the room that is made for the line of a task's answer; nothing has no line
 abbrev pub room : Task → ℕ
@@ -56,6 +60,7 @@ room (Peek at count) = LINE_ROOM + 2 * count
 room (RunSession image inputs nonce var) = SESSION_ROOM
 room (Unseal blob var) = UNSEAL_ROOM
 room (Quote nonce var) = QUOTE_ROOM
+room (ReadSlot j s var) = SLOT_ROOM
 room other = REGISTER_ROOM
 
 -- beside that room, a task may allocate: for a value, for a name, for bytes of memory to show, for a
@@ -130,6 +135,21 @@ last_counter = 255
 abbrev pub counter_or_none : ℕ → Task
 counter_or_none id = if nat_le id last_counter then ReadCounter id else Refuse NoCounter
 
+-- the disk has such a slot: 0 or 1 of a job below 8
+abbrev pub is_slot : ℕ → ℕ → Bool
+is_slot j s = nat_lt j JOBS && nat_lt s 2
+
+-- to show the blob in a slot, where there is one of these numbers
+abbrev pub slot_or_none : ℕ → ℕ → Option (List ℕ) → Task
+slot_or_none j s var = if is_slot j s then ReadSlot j s var else Refuse NoSlot
+
+-- to write a blob into a slot, where there is one of these numbers, and the slot has room for it
+abbrev pub overwrite_or_refusal : ℕ → ℕ → List ℕ → Task
+overwrite_or_refusal j s blob =
+    if is_slot j s
+    then (if nat_le (length blob) LONGEST_BLOB then Overwrite j s blob else Refuse NoLong)
+    else Refuse NoSlot
+
 -- what a request comes to
 abbrev pub task_of : Request → Table → Task
 task_of Nothing table = Rest
@@ -173,12 +193,15 @@ task_of (CheckOf quote image inputs outputs end nonce texts) table =
       end = end;
       nonce = nonce;
     }) quote))))))
+task_of (SlotOf j s var) table = slot_or_none j s var
+task_of (OverwriteOf j s blob) table = value_task blob table (λ bytes. overwrite_or_refusal j s bytes)
 
--- a request may allocate where its task may; that of a session, of a quote and of a check, where its
--- first expression has a value
+-- a request may allocate where its task may; that of a session, of a quote, of a check and of a blob
+-- for a slot, where its first expression has a value
 abbrev pub MayAllocateFor : Request → Table → Type 0
 MayAllocateFor (SessionOf image inputs nonce var) table = IsOk (value_of image table)
 MayAllocateFor (QuoteOf nonce var) table = IsOk (value_of nonce table)
 MayAllocateFor (CheckOf quote image inputs outputs end nonce texts) table =
     IsOk (value_of quote table)
+MayAllocateFor (OverwriteOf j s blob) table = IsOk (value_of blob table)
 MayAllocateFor other table = MayAllocate (task_of other table)

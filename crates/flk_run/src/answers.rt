@@ -6,6 +6,7 @@ ghost use Rattle.flk_run.specs.Seen.{seen_answer, HasShortOutputs};
 
 use flk_base::{Bytes, print_hex};
 use itoa::Buffer;
+use job_store::LONGEST_BLOB;
 use late_launch::End;
 use script_text::ExprFault;
 use seal_device::LONGEST_SEALED;
@@ -26,6 +27,9 @@ pub(crate) const QUOTE_ROOM: usize = LINE_ROOM + 80;
 /// The room that it has with what was sealed in a blob.
 pub(crate) const UNSEAL_ROOM: usize = LINE_ROOM + 2 * LONGEST_SEALED;
 
+/// The room that it has with the blob of a slot.
+pub(crate) const SLOT_ROOM: usize = LINE_ROOM + 2 * LONGEST_BLOB;
+
 /// The room that it has with the end of a session, whose outputs have at most 4,096 bytes.
 pub(crate) const SESSION_ROOM: usize = 128 + 2 * LONGEST_OUTPUTS;
 
@@ -44,7 +48,7 @@ pub enum Refusal {
     NoSpan,
     /// The bytes lie in no one span.
     NoTaken,
-    /// More bytes are asked for than a value may have.
+    /// More bytes are asked for than a value may have, or are to be written than a slot has room for.
     NoLong,
     /// Some byte lies in no span, so no device may write it.
     NoBlocked,
@@ -58,7 +62,7 @@ pub enum Refusal {
     NoSeeded,
     /// The device has no seed.
     NoSeed,
-    /// The bytes are no blob of this device.
+    /// The bytes are no blob of this device, or the slot holds none.
     NoBlob,
     /// Register 17 has another value than when the blob was sealed.
     NoChain,
@@ -66,6 +70,10 @@ pub enum Refusal {
     NoCounter,
     /// There are no more random words, or no session ends so.
     NoEnd,
+    /// There is no slot of these numbers.
+    NoSlot,
+    /// The disk failed.
+    NoDisk,
     /// The power was lost before the event was done.
     PowerLost,
 }
@@ -308,6 +316,8 @@ fn put_refusal(out: &mut Bytes, number: u32, refusal: Refusal)
         Refusal::NoChain => put_line(out, number, b"no chain"),
         Refusal::NoCounter => put_line(out, number, b"no counter"),
         Refusal::NoEnd => put_line(out, number, b"no end"),
+        Refusal::NoSlot => put_line(out, number, b"no slot"),
+        Refusal::NoDisk => put_line(out, number, b"no disk"),
         Refusal::PowerLost => put_line(out, number, b"power lost"),
     }
 }

@@ -3,19 +3,17 @@ ghost use Rattle.std.specs.Prelude.{◌≡◌, ◌≤◌, true, false, IfOk, IsE
 ghost use Rattle.std.specs.Option.{option_map, IfSome};
 ghost use Rattle.script_text.specs.Seen.{IsShortName};
 ghost use Rattle.seal_device.specs.Digests.{digests};
-ghost use Rattle.flk_run.specs.declared.disk.SimDisk.{SimDisk as DiskView};
 ghost use Rattle.flk_run.specs.Answers.{room_of};
 ghost use Rattle.flk_run.specs.Events.{task_step};
-ghost use Rattle.flk_run.specs.Parts.{platform_with};
-ghost use Rattle.flk_run.specs.Seen.{seen_task, seen_answer, binds, takes, may_run_out, IsNamed, IsRoom, HasRoom, HasShortOutputs, IsShortShown};
+ghost use Rattle.flk_run.specs.Seen.{platform_at, seen_task, seen_answer, binds, takes, may_run_out, IsNamed, IsRoom, HasRoom, HasSlot, HasShortOutputs, IsShortShown};
 ghost use Rattle.flk_run.specs.Tasks.{Quote, room, MayAllocate};
 ghost use Rattle.flk_run.specs.Sessions.{table_after, table_with, shown_in};
-ghost use Rattle.flk_run.specs.declared.answers.TheConstants.{QUOTE_ROOM, REGISTER_ROOM, SESSION_ROOM, UNSEAL_ROOM};
+ghost use Rattle.flk_run.specs.declared.answers.TheConstants.{QUOTE_ROOM, REGISTER_ROOM, SESSION_ROOM, SLOT_ROOM, UNSEAL_ROOM};
 ghost use Rattle.flk_run.specs.declared.tasks.Task.TheVariants as HeldTask;
 
 use crate::answers::Answer;
 use crate::host::Host;
-use crate::tasks::{Bound, SessionTask, Task, UnsealTask};
+use crate::tasks::{Bound, SessionTask, SlotTask, Task, UnsealTask};
 use flk_base::{Bytes, NoMemory};
 use script_text::Vars;
 
@@ -28,13 +26,14 @@ pub(crate) fn perform(
 ) -> (Host, Result<Answer, NoMemory>)
     requires named { IsNamed (seen_task task) }
     requires room { HasRoom task }
+    requires slot { HasSlot (seen_task task) }
     requires name { binds (seen_task task) ≡ true → 1 ≤ vars.old.spare }
     requires ticket { takes (seen_task task) ≡ true → 1 ≤ host.spare }
     ensures untaken { result.0.untaken ≡ host.untaken }
-    ensures done { IfOk result.1 (λ answer. host.untaken ≡ true → (disk : DiskView) →
-        (platform_with result.0.armed result.0.board result.0.spans disk vars.new.table, seen_answer answer)
+    ensures done { IfOk result.1 (λ answer. host.untaken ≡ true →
+        (platform_at result.0 vars.new.table, seen_answer answer)
         ≡ task_step digests (seen_task task.entry)
-        (platform_with host.armed host.board host.spans disk vars.old.table)) }
+        (platform_at host vars.old.table)) }
     ensures fits { IfOk result.1 (λ answer. room_of (seen_answer answer) ≤ room (seen_task task.entry)) }
     ensures short { IfOk result.1 (λ answer. HasShortOutputs (seen_answer answer)) }
     ensures kept { OnErr result.1 (result.0 ≡ host) }
@@ -56,14 +55,15 @@ pub(crate) fn perform(
 fn done(host: Host, vars: &mut Vars, task: Task<'_>) -> (Host, Answer)
     requires named { IsNamed (seen_task task) }
     requires room { HasRoom task }
+    requires slot { HasSlot (seen_task task) }
     requires name { binds (seen_task task) ≡ true → 1 ≤ vars.old.spare }
     requires ticket { takes (seen_task task) ≡ true → 1 ≤ host.spare }
     requires never { may_run_out (seen_task task) ≡ false }
     ensures untaken { result.0.untaken ≡ host.untaken }
-    ensures done { host.untaken ≡ true → (disk : DiskView) →
-        (platform_with result.0.armed result.0.board result.0.spans disk vars.new.table, seen_answer result.1)
+    ensures done { host.untaken ≡ true →
+        (platform_at result.0 vars.new.table, seen_answer result.1)
         ≡ task_step digests (seen_task task.entry)
-        (platform_with host.armed host.board host.spans disk vars.old.table) }
+        (platform_at host vars.old.table) }
     ensures fits { room_of (seen_answer result.1) ≤ room (seen_task task.entry) }
     ensures short { HasShortOutputs (seen_answer result.1) }
 {
@@ -95,6 +95,8 @@ fn done(host: Host, vars: &mut Vars, task: Task<'_>) -> (Host, Answer)
         Task::Draw(bound) => return run_draw(host, vars, bound),
         Task::Quote { nonce, bound } => return run_quote(host, vars, &nonce, bound),
         Task::Check(check) => return host.check(&check),
+        Task::ReadSlot(slot) => return run_slot(host, vars, slot),
+        Task::Overwrite { j, s, blob } => return host.overwrite(j, s, blob.as_slice()),
     }
 }
 
@@ -108,10 +110,10 @@ fn run_session(
     requires room { HasRoom (HeldTask.RunSession session) }
     requires name { binds (seen_task (HeldTask.RunSession session)) ≡ true → 1 ≤ vars.old.spare }
     ensures untaken { result.0.untaken ≡ host.untaken }
-    ensures done { IfOk result.1 (λ answer. host.untaken ≡ true → (disk : DiskView) →
-        (platform_with result.0.armed result.0.board result.0.spans disk vars.new.table, seen_answer answer)
+    ensures done { IfOk result.1 (λ answer. host.untaken ≡ true →
+        (platform_at result.0 vars.new.table, seen_answer answer)
         ≡ task_step digests (seen_task (HeldTask.RunSession session.entry))
-        (platform_with host.armed host.board host.spans disk vars.old.table)) }
+        (platform_at host vars.old.table)) }
     ensures fits { IfOk result.1 (λ answer. room_of (seen_answer answer) ≤ SESSION_ROOM) }
     ensures short { IfOk result.1 (λ answer. HasShortOutputs (seen_answer answer)) }
     ensures kept { OnErr result.1 (result.0 ≡ host) }
@@ -142,15 +144,37 @@ fn run_unseal(host: Host, vars: &mut Vars, unseal: UnsealTask<'_>) -> (Host, Ans
     requires room { HasRoom (HeldTask.Unseal unseal) }
     requires name { binds (seen_task (HeldTask.Unseal unseal)) ≡ true → 1 ≤ vars.old.spare }
     ensures untaken { result.0.untaken ≡ host.untaken }
-    ensures done { host.untaken ≡ true → (disk : DiskView) →
-        (platform_with result.0.armed result.0.board result.0.spans disk vars.new.table, seen_answer result.1)
+    ensures done { host.untaken ≡ true →
+        (platform_at result.0 vars.new.table, seen_answer result.1)
         ≡ task_step digests (seen_task (HeldTask.Unseal unseal.entry))
-        (platform_with host.armed host.board host.spans disk vars.old.table) }
+        (platform_at host vars.old.table) }
     ensures fits { room_of (seen_answer result.1) ≤ UNSEAL_ROOM }
     ensures short { HasShortOutputs (seen_answer result.1) }
 {
     let UnsealTask { blob, bytes, bound } = unseal;
     let (host, answer) = host.unseal(blob.as_slice(), bytes);
+    if let Some(Bound { name, value }) = bound {
+        bind_bytes(vars, name, value, &answer);
+    }
+    (host, answer)
+}
+
+// Reads a slot, and binds its name to the blob, where it has one and the slot holds one.
+fn run_slot(host: Host, vars: &mut Vars, slot: SlotTask<'_>) -> (Host, Answer)
+    requires named { IsNamed (seen_task (HeldTask.ReadSlot slot)) }
+    requires room { HasRoom (HeldTask.ReadSlot slot) }
+    requires slot { HasSlot (seen_task (HeldTask.ReadSlot slot)) }
+    requires name { binds (seen_task (HeldTask.ReadSlot slot)) ≡ true → 1 ≤ vars.old.spare }
+    ensures untaken { result.0.untaken ≡ host.untaken }
+    ensures done { host.untaken ≡ true →
+        (platform_at result.0 vars.new.table, seen_answer result.1)
+        ≡ task_step digests (seen_task (HeldTask.ReadSlot slot.entry))
+        (platform_at host vars.old.table) }
+    ensures fits { room_of (seen_answer result.1) ≤ SLOT_ROOM }
+    ensures short { HasShortOutputs (seen_answer result.1) }
+{
+    let SlotTask { j, s, bytes, bound } = slot;
+    let (host, answer) = host.read_slot(j, s, bytes);
     if let Some(Bound { name, value }) = bound {
         bind_bytes(vars, name, value, &answer);
     }
@@ -163,10 +187,10 @@ fn run_draw(host: Host, vars: &mut Vars, bound: Option<Bound<'_>>) -> (Host, Ans
     requires room { HasRoom (HeldTask.Draw bound) }
     requires name { binds (seen_task (HeldTask.Draw bound)) ≡ true → 1 ≤ vars.old.spare }
     ensures untaken { result.0.untaken ≡ host.untaken }
-    ensures done { host.untaken ≡ true → (disk : DiskView) →
-        (platform_with result.0.armed result.0.board result.0.spans disk vars.new.table, seen_answer result.1)
+    ensures done { host.untaken ≡ true →
+        (platform_at result.0 vars.new.table, seen_answer result.1)
         ≡ task_step digests (seen_task (HeldTask.Draw bound.entry))
-        (platform_with host.armed host.board host.spans disk vars.old.table) }
+        (platform_at host vars.old.table) }
     ensures fits { room_of (seen_answer result.1) ≤ REGISTER_ROOM }
     ensures short { HasShortOutputs (seen_answer result.1) }
 {
@@ -189,10 +213,10 @@ fn run_quote(
     requires name { binds (Quote nonce.now (option_map (λ bound. bound.name.now) bound)) ≡ true
         → 1 ≤ vars.old.spare }
     ensures untaken { result.0.untaken ≡ host.untaken }
-    ensures done { host.untaken ≡ true → (disk : DiskView) →
-        (platform_with result.0.armed result.0.board result.0.spans disk vars.new.table, seen_answer result.1)
+    ensures done { host.untaken ≡ true →
+        (platform_at result.0 vars.new.table, seen_answer result.1)
         ≡ task_step digests (Quote nonce.now (option_map (λ bound. bound.name.now) bound.entry))
-        (platform_with host.armed host.board host.spans disk vars.old.table) }
+        (platform_at host vars.old.table) }
     ensures fits { room_of (seen_answer result.1) ≤ QUOTE_ROOM }
     ensures short { HasShortOutputs (seen_answer result.1) }
 {

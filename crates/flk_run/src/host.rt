@@ -1,21 +1,27 @@
-// What the host does with a board: events without expressions.
-ghost use Rattle.std.specs.Prelude.{◌≡◌, ◌↔◌, IsErr, ◌+◌, ◌*◌, ◌≤◌, length, slice_set, take, true, None, OnOk, OnErr, IfOk};
+// What the host does with a board and a disk: events without expressions.
+ghost use Rattle.std.specs.Prelude.{◌≡◌, ◌↔◌, IsErr, ◌+◌, ◌*◌, ◌≤◌, ◌<◌, length, slice_set, take, true, [], ◌-◌, vec_len, vec_capacity, None, OnOk, OnErr, IfOk};
 ghost use Rattle.flk_run.specs.Answers.{room_of};
 ghost use Rattle.flk_run.specs.Seen.{Steps, seen_answer, seen_session, HasShortOutputs, IsShortShown, IsRoom};
 ghost use Rattle.flk_run.specs.Sessions.{answer_to_end, armed_after};
 ghost use Rattle.slb_core.specs.Reports.{count_of};
-ghost use Rattle.flk_run.specs.Tasks.{Extend, Read, Take, Give, Poke, Peek, Dma as WriteByDevice, SetRegister, ShowRegisters, Arm, RunSession, Seed, Unseal, ReadCounter, Draw, Quote, Check};
+ghost use Rattle.machine_memory.specs.HostMemory.{is_untaken};
+ghost use Rattle.late_launch.specs.Boards.{powered};
+ghost use Rattle.job_engine.specs.Commands.{cycled};
+ghost use Rattle.flk_run.specs.Parts.{IsHost};
+ghost use Rattle.flk_run.specs.Tasks.{Extend, Read, Take, Give, Poke, Peek, Dma as WriteByDevice, SetRegister, ShowRegisters, Arm, RunSession, Seed, Unseal, ReadCounter, Draw, Quote, Check, ReadSlot, Overwrite};
 
 use crate::answers::{
     Answer, LINE_ROOM, LONGEST_OUTPUTS, QUOTE_ROOM, REGISTER_ROOM, Refusal, SESSION_ROOM,
-    SessionOver, UNSEAL_ROOM,
+    SLOT_ROOM, SessionOver, UNSEAL_ROOM,
 };
 use crate::board::{dev_write, give, host_read, host_write, take};
 use crate::checks::{CheckTask, is_said};
+use crate::slots::{overwrite, read_slot};
 use crate::spans::{Spans, keep, room_for_ticket, ticket_at};
 use flk_base::{Bytes, NoMemory};
 use i386_profile::Cpu;
-use late_launch::{Board, End};
+use job_store::{Disk, JOBS, LONGEST_BLOB, SLOT_LEN, SimDisk, SlotFault};
+use late_launch::{Board, Dark, End};
 use machine_memory::{DevEnd, Dma, Memory, TakeFault, frame_law};
 use region_pool::Ticket;
 use seal_device::{
@@ -26,10 +32,11 @@ use std::alloc::Global;
 use std::marker::Model;
 use std::snapshot::Snapshot;
 
-/// A board, and the tickets of the spans that the host took of its memory. Where memory held no
-/// span when the host came, these are all that it holds. It must be spent, by `part`.
+/// A board with a disk, and the tickets of the spans that the host took of its memory. Where memory
+/// held no span when the host came, these are all that it holds. It must be spent, by `part`.
 pub(crate) struct Host {
     board: Board,
+    disk: SimDisk,
     tickets: Vec<Ticket>,
     // The device writes that are armed for the next session.
     armed: Dma,
@@ -46,6 +53,7 @@ impl Model for Host {
 
     ghost view = { λ h. record {
       board = h.board;
+      disk = h.disk;
       spans = h.tickets.items;
       untaken = is_untaken h.found.value;
       armed = h.armed;
@@ -60,11 +68,13 @@ impl Host {
     ghost use Rattle.machine_memory.specs.HostMemory.{is_untaken};
     ghost use Rattle.flk_run.specs.declared.answers.Answer.TheVariants as answer;
     ghost use Rattle.flk_run.specs.declared.answers.Refusal.TheVariants as refusal;
+    ghost use Rattle.job_engine.specs.Commands.{cycled};
     ghost use Rattle.flk_run.specs.Parts.{HoldsSpans, board_after_power_on};
 
-    /// The host of a board, who has taken nothing yet.
-    pub(crate) fn new(alloc: Global, board: Board) -> Host
+    /// The host of a board and a disk, who has taken nothing yet.
+    pub(crate) fn new(alloc: Global, board: Board, disk: SimDisk) -> Host
         ensures board { result.board ≡ board }
+        ensures disk { result.disk ≡ disk }
         ensures spans { result.spans ≡ [] }
         ensures untaken { result.untaken ≡ is_untaken board.memory }
         ensures armed { result.armed ≡ [] }
@@ -73,25 +83,28 @@ impl Host {
         let found = Snapshot::of(&board.memory);
         Host {
             board,
+            disk,
             tickets: Vec::new(alloc),
             armed: Dma::new(alloc),
             found,
         }
     }
 
-    /// The board, and the spans that the host holds of its memory.
-    pub(crate) fn part(self) -> (Board, Spans)
+    /// The board, the disk, and the spans that the host holds of memory.
+    pub(crate) fn part(self) -> (Board, SimDisk, Spans)
         ensures board { result.0 ≡ self.board }
-        ensures spans { result.1 ≡ self.spans }
-        ensures held { HoldsSpans result.0.memory.marks result.1 }
+        ensures disk { result.1 ≡ self.disk }
+        ensures spans { result.2 ≡ self.spans }
+        ensures held { HoldsSpans result.0.memory.marks result.2 }
     {
         let Host {
             board,
+            disk,
             tickets,
             armed: _,
             found: _,
         } = self;
-        (board, Spans { tickets })
+        (board, disk, Spans { tickets })
     }
 
     /// Makes room for one more ticket.
@@ -102,25 +115,24 @@ impl Host {
         room_for_ticket(&mut self.tickets)
     }
 
-    // The power was lost, and comes back at once: no write stays armed.
+    // The power was lost, and comes back at once: no write stays armed, and the disk keeps what was
+    // synced.
     fn power_lost(self) -> (Host, Answer)
-        ensures left { result.0
-            ≡ record self { board = board_after_power_on self.board; armed = [] } }
+        ensures left { result.0 ≡ record self {
+          board = board_after_power_on self.board;
+          disk = cycled 0 [] self.disk;
+          armed = [];
+        } }
         ensures answer { result.1 ≡ answer.Refused refusal.PowerLost }
     {
         let Host {
             board,
-            tickets,
-            mut armed,
-            found,
-        } = self;
-        armed.clear();
-        let host = Host {
-            board: board.fall().power_on(),
+            disk,
             tickets,
             armed,
             found,
-        };
+        } = self;
+        let host = come_back(board.fall(), disk, tickets, armed, found);
         (host, Answer::Refused(Refusal::PowerLost))
     }
 
@@ -246,6 +258,47 @@ impl Host {
         match self.board.quote_key() {
             Some(key) => return (self, Answer::Says(is_said(&key, check))),
             None => return (self, Answer::Refused(Refusal::NoSeed)),
+        }
+    }
+
+    /// Reads the blob of a slot, for whose bytes there is room.
+    pub(crate) fn read_slot(self, j: u32, s: u32, bytes: Bytes) -> (Host, Answer)
+        requires job { j < JOBS }
+        requires slot { s < 2 }
+        requires room { IsRoom bytes }
+        ensures untaken { result.0.untaken ≡ self.untaken }
+        ensures steps { self.untaken ≡ true → Steps (ReadSlot j s None) self result.0 result.1 }
+        ensures fits { room_of (seen_answer result.1) ≤ SLOT_ROOM }
+        ensures short { IsShortShown (seen_answer result.1) }
+    {
+        let mut host = self;
+        let mut bytes = bytes;
+        let mut out = [0; SLOT_LEN];
+        match read_slot(&mut host.board, &mut host.disk, j, s, &mut out) {
+            Ok(len) => {
+                bytes.put(&out[..len]);
+                return (host, Answer::Shows(bytes));
+            }
+            Err(SlotFault::NoBlob) => return (host, Answer::Refused(Refusal::NoBlob)),
+            Err(SlotFault::DiskFault) => return (host, Answer::Refused(Refusal::NoDisk)),
+            Err(SlotFault::PowerLost) => return host.power_lost(),
+        }
+    }
+
+    /// Writes a blob into a slot, and syncs the disk.
+    pub(crate) fn overwrite(self, j: u32, s: u32, blob: &[u8]) -> (Host, Answer)
+        requires job { j < JOBS }
+        requires slot { s < 2 }
+        requires room { length blob.now ≤ LONGEST_BLOB }
+        ensures untaken { result.0.untaken ≡ self.untaken }
+        ensures steps { self.untaken ≡ true → Steps (Overwrite j s blob.now) self result.0 result.1 }
+        ensures fits { room_of (seen_answer result.1) ≤ REGISTER_ROOM }
+    {
+        let mut host = self;
+        match overwrite(&mut host.board, &mut host.disk, j, s, blob) {
+            Ok(()) => return (host, Answer::Done),
+            Err(SlotFault::PowerLost) => return host.power_lost(),
+            Err(_) => return (host, Answer::Refused(Refusal::NoDisk)),
         }
     }
 
@@ -387,6 +440,7 @@ impl Host {
     {
         let Host {
             board,
+            disk,
             tickets,
             mut armed,
             found,
@@ -397,6 +451,7 @@ impl Host {
                 let answer = session_answer(end, &mut armed, &out, outputs);
                 let host = Host {
                     board,
+                    disk,
                     tickets,
                     armed,
                     found,
@@ -404,16 +459,41 @@ impl Host {
                 return (host, answer);
             }
             Err(dark) => {
-                armed.clear();
-                let host = Host {
-                    board: dark.power_on(),
-                    tickets,
-                    armed,
-                    found,
-                };
+                let host = come_back(dark, disk, tickets, armed, found);
                 return (host, Ok(Answer::Refused(Refusal::PowerLost)));
             }
         }
+    }
+}
+
+// The host once the power came back: no write stays armed, and the disk keeps what was synced.
+fn come_back(
+    dark: Dark,
+    disk: SimDisk,
+    tickets: Vec<Ticket>,
+    armed: Dma,
+    found: Snapshot<Memory>,
+) -> Host
+    requires { IsHost (is_untaken found.value) (powered dark).memory tickets.items }
+    ensures { result ≡ record {
+      board = powered dark;
+      disk = cycled 0 [] disk;
+      spans = tickets.items;
+      untaken = is_untaken found.value;
+      armed = [];
+      spare = vec_capacity tickets - vec_len tickets;
+    } }
+{
+    let mut disk = disk;
+    let mut armed = armed;
+    armed.clear();
+    disk.power_cycle(0, &[]);
+    Host {
+        board: dark.power_on(),
+        disk,
+        tickets,
+        armed,
+        found,
     }
 }
 

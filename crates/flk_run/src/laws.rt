@@ -5,19 +5,17 @@ ghost use Rattle.std.specs.FinMap.{empty};
 ghost use Rattle.machine_memory.specs.HostMemory.{is_untaken};
 ghost use Rattle.late_launch.specs.Boards.{blank_board};
 ghost use Rattle.flk_run.specs.Parts.{known_if, platform_of};
-ghost use Rattle.flk_base.specs.Plan.{run};
 ghost use Rattle.flk_base.specs.Stop.{Limit};
-ghost use Rattle.seal_device.specs.Commands.{act};
 ghost use Rattle.seal_device.specs.Digests.{digests};
 ghost use Rattle.seal_device.specs.Lists.{lists};
 ghost use Rattle.seal_device.specs.Rules.{Rules};
-ghost use Rattle.seal_device.specs.Agreement.{digested, ComparesNothing, Noted};
+ghost use Rattle.seal_device.specs.Agreement.{digested, Noted};
 ghost use Rattle.seal_device.specs.Ledger.{Ledger};
 ghost use Rattle.script_text.specs.Grammar.{Request};
-ghost use Rattle.flk_run.specs.declared.disk.SimDisk.{SimDisk as DiskView};
+ghost use Rattle.job_store.specs.Simulated.{Simulated};
 ghost use Rattle.flk_run.specs.Platform.{Around, Platform, ListPlatform, platform_digested, blank};
-ghost use Rattle.flk_run.specs.Events.{event, step, transcript, after_all, script, lines_of, after_outcomes};
-ghost use Rattle.flk_run.specs.Agreement.{step_digested, NothingCompared, NothingComparedBy, FairBy, may_compare};
+ghost use Rattle.flk_run.specs.Events.{event, step, run_on, transcript, after_all, script, lines_of, after_outcomes};
+ghost use Rattle.flk_run.specs.Agreement.{step_digested, ComparesNothing, NothingCompared, NothingComparedBy, FairBy, may_compare};
 
 /// Where no command compares, an event does by digests what it does by lists, seen by digests, and
 /// answers the same; so does a script. An event that neither runs a session nor unseals a blob
@@ -26,7 +24,7 @@ pub fn scripts_by_lists()
     ensures compares { (w : Around) (fuse : Limit) (request : Request) → may_compare request ≡ false
         → ComparesNothing (event w fuse request) }
     ensures event { (request : Request) (p : ListPlatform)
-        → NothingCompared (event p.around p.fuse request) (digested p.device) →
+        → NothingCompared (event p.around p.fuse request) (digested p.device, p.disk) →
         step digests request (platform_digested p) ≡ step_digested (step lists request p) }
     ensures transcript { (n : ℕ) (requests : List Request) (p : ListPlatform)
         → NothingComparedBy requests (platform_digested p) →
@@ -35,7 +33,7 @@ pub fn scripts_by_lists()
         → NothingComparedBy requests (platform_digested p) →
         after_all digests requests (platform_digested p)
         ≡ platform_digested (after_all lists requests p) }
-    ensures blank { (disk : DiskView) → platform_digested (blank lists disk) ≡ blank digests disk }
+    ensures blank { (disk : Simulated) → platform_digested (blank lists disk) ≡ blank digests disk }
 {}
 
 /// Where each command that compares is fair, a script does by digests what it does by lists, seen by
@@ -53,7 +51,7 @@ pub fn fair_scripts_agree()
 
 /// A board that was never used is, beside any disk, the platform that was never used.
 pub fn blank_board_is_blank()
-    ensures { (disk : DiskView) → known_if (is_untaken blank_board.memory)
+    ensures { (disk : Simulated) → known_if (is_untaken blank_board.memory)
         (platform_of blank_board [] disk empty) ≡ Some (blank digests disk) }
 {}
 
@@ -61,9 +59,9 @@ pub fn blank_board_is_blank()
 /// events leave, one after another, and its answers are the transcript's.
 pub fn script_is_one_plan<H, M>()
     ensures platform { (R : Rules H M) (requests : List Request) (p : Platform H M) →
-        after_outcomes p.disk (run (act R) (script p.around p.fuse requests) p.device)
+        after_outcomes (run_on R (script p.around p.fuse requests) p)
         ≡ after_all R requests p }
     ensures transcript { (R : Rules H M) (n : ℕ) (requests : List Request) (p : Platform H M) →
-        lines_of n (run (act R) (script p.around p.fuse requests) p.device).1.answers
+        lines_of n (run_on R (script p.around p.fuse requests) p).1.answers
         ≡ transcript R n requests p }
 {}

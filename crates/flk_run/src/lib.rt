@@ -5,17 +5,17 @@
 mod answers;
 mod board;
 mod checks;
-mod disk;
 mod events;
 mod host;
 mod laws;
 mod run;
 mod runner;
+mod slots;
 mod spans;
 mod tasks;
 
 pub use answers::Refusal;
-pub use disk::SimDisk;
+pub use job_store::SimDisk;
 pub use late_launch::Board;
 pub use laws::{blank_board_is_blank, fair_scripts_agree, script_is_one_plan, scripts_by_lists};
 pub use run::{ScriptFault, run_script};

@@ -2,15 +2,15 @@
 ghost use Rattle.std.specs.Prelude.{◌≡◌, ◌≤◌, true, false, IfOk, IsOk, IsErr, OnOk};
 ghost use Rattle.script_text.specs.Seen.{request_of, HasShortName};
 ghost use Rattle.flk_run.specs.Tasks.{room, task_of, MayAllocateFor};
-ghost use Rattle.flk_run.specs.Seen.{seen_task, binds, takes, IsNamed, HasRoom};
+ghost use Rattle.flk_run.specs.Seen.{seen_task, binds, takes, IsNamed, HasRoom, HasSlot};
 
 use crate::answers::put_answer;
-use crate::disk::SimDisk;
 use crate::events::perform;
 use crate::host::Host;
 use crate::spans::Spans;
 use crate::tasks::{Task, task_of};
 use flk_base::{Bytes, NoMemory};
+use job_store::SimDisk;
 use late_launch::Board;
 use script_text::{Event, Vars};
 use std::alloc::Global;
@@ -30,7 +30,6 @@ pub enum StepEnd {
 /// contracts know the platform by digests that it is. It must be spent, by `finish`.
 pub struct Runner {
     host: Host,
-    disk: SimDisk,
     vars: Vars,
     alloc: Global,
 }
@@ -43,7 +42,7 @@ impl Model for Runner {
 
     ghost coded = { Prim.hlevel (codes, table_code) };
 
-    ghost view = { λ r. experiment r.host r.disk r.vars.table };
+    ghost view = { λ r. experiment r.host r.vars.table };
 }
 
 impl Runner {
@@ -62,16 +61,15 @@ impl Runner {
         ensures { result
             ≡ record {
               board = board;
+              disk = disk;
               spans = [];
               untaken = is_untaken board.memory;
               armed = [];
-              disk = disk;
               variables = empty;
             } }
     {
         Runner {
-            host: Host::new(alloc, board),
-            disk,
+            host: Host::new(alloc, board, disk),
             vars: Vars::new(alloc),
             alloc,
         }
@@ -109,17 +107,11 @@ impl Runner {
             Ok(task) => {
                 let Runner {
                     host,
-                    disk,
                     mut vars,
                     alloc,
                 } = runner;
                 let (host, done) = perform(host, &mut vars, task);
-                let runner = Runner {
-                    host,
-                    disk,
-                    vars,
-                    alloc,
-                };
+                let runner = Runner { host, vars, alloc };
                 match done {
                     Ok(done) => {
                         put_answer(answer, number, &done);
@@ -141,12 +133,10 @@ impl Runner {
     {
         let Runner {
             host,
-            disk,
             vars: _,
             alloc: _,
         } = self;
-        let (board, spans) = host.part();
-        (board, disk, spans)
+        host.part()
     }
 }
 
@@ -164,6 +154,7 @@ fn prepared<'e>(
         ≡ task_of (request_of event.now) vars.old.table) }
     ensures named { IfOk result (λ task. IsNamed (seen_task task)) }
     ensures room { IfOk result HasRoom }
+    ensures slot { IfOk result (λ task. HasSlot (seen_task task)) }
     ensures line { IfOk result (λ task. room (seen_task task) ≤ answer.new.spare) }
     ensures name { IfOk result (λ task. binds (seen_task task) ≡ true → 1 ≤ vars.new.spare) }
     ensures ticket { IfOk result (λ task. takes (seen_task task) ≡ true → 1 ≤ host.new.spare) }

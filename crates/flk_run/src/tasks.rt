@@ -1,18 +1,20 @@
 // What an event comes to once its expressions have their values.
-ghost use Rattle.std.specs.Prelude.{◌≡◌, ◌≤◌, length, replicate, IfOk, IsOk, IsErr, IsSome, MatchResult, Ok, Err};
+ghost use Rattle.std.specs.Prelude.{◌≡◌, ◌≤◌, length, replicate, IfOk, IsOk, IsErr, IsSome, MatchResult, Ok, Err, true};
 ghost use Rattle.std.specs.Option.{option_map, IfSome};
 ghost use Rattle.expr_text.specs.Values.{value_of};
 ghost use Rattle.script_text.specs.Seen.{request_of, HasShortName};
 ghost use Rattle.slb_image.specs.Faults.{build_fault};
 ghost use Rattle.slb_image.specs.Image.{pack};
-ghost use Rattle.flk_run.specs.Tasks.{Extend, Bind, Show, Poke, Dma, Arm, Seed, Unseal, Draw, value_task, image_or_fault, peek_or_long, session_or_nonce, quote_or_nonce, counter_or_none, room, task_of, MayAllocateFor};
-ghost use Rattle.flk_run.specs.Seen.{seen_task, binds, takes, IsNamed, IsShown, IsRoom, HasRoom};
+ghost use Rattle.flk_run.specs.Tasks.{Extend, Bind, Show, Poke, Dma, Arm, Seed, Unseal, Draw, ReadSlot, value_task, image_or_fault, peek_or_long, session_or_nonce, quote_or_nonce, counter_or_none, is_slot, slot_or_none, overwrite_or_refusal, room, task_of, MayAllocateFor};
+ghost use Rattle.flk_run.specs.Seen.{seen_task, binds, takes, IsNamed, IsShown, IsRoom, HasRoom, HasSlot};
 
 use crate::answers::{
-    LINE_ROOM, LONGEST_OUTPUTS, QUOTE_ROOM, REGISTER_ROOM, Refusal, SESSION_ROOM, UNSEAL_ROOM,
+    LINE_ROOM, LONGEST_OUTPUTS, QUOTE_ROOM, REGISTER_ROOM, Refusal, SESSION_ROOM, SLOT_ROOM,
+    UNSEAL_ROOM,
 };
 use crate::checks::{Asked, CheckTask, check_task};
 use flk_base::{Bytes, NoMemory};
+use job_store::{JOBS, LONGEST_BLOB};
 use script_text::{Event, Expr, ExprError, ExprFault, LONGEST_VALUE, Vars};
 use slb_image::{BuildError, build};
 use std::alloc::Global;
@@ -41,6 +43,15 @@ pub(crate) struct SessionTask<'e> {
 #[derive(Drop)]
 pub(crate) struct UnsealTask<'e> {
     pub(crate) blob: Bytes,
+    pub(crate) bytes: Bytes,
+    pub(crate) bound: Option<Bound<'e>>,
+}
+
+/// The reading of a slot: room for its blob, and the name that it binds to this.
+#[derive(Drop)]
+pub(crate) struct SlotTask<'e> {
+    pub(crate) j: u32,
+    pub(crate) s: u32,
     pub(crate) bytes: Bytes,
     pub(crate) bound: Option<Bound<'e>>,
 }
@@ -132,6 +143,14 @@ pub(crate) enum Task<'e> {
     },
     /// To check whether bytes are the quote of a session.
     Check(CheckTask),
+    /// To show the blob of a slot.
+    ReadSlot(SlotTask<'e>),
+    /// To write a blob into a slot.
+    Overwrite {
+        j: u32,
+        s: u32,
+        blob: Bytes,
+    },
 }
 
 /// What an expression is worth: its value, or why it has none; neither where memory ran out.
@@ -293,7 +312,7 @@ fn arm_task(
     }
 }
 
-// Room for the outputs of a session, or for what was sealed in a blob.
+// Room for the outputs of a session, for what was sealed in a blob, or for the blob of a slot.
 fn room_for_outputs(alloc: Global) -> Result<Bytes, NoMemory>
     ensures { IfOk result IsRoom }
 {
@@ -449,6 +468,75 @@ fn quote_task<'e>(
     }
 }
 
+// Whether the disk has a slot of these numbers.
+fn is_slot(j: u32, s: u32) -> bool
+    ensures { result ≡ is_slot j s }
+{
+    j < JOBS && s < 2
+}
+
+// To show the blob of a slot, with room for it.
+fn slot_of<'e>(alloc: Global, j: u32, s: u32, var: &'e Option<Bytes>) -> Result<Task<'e>, NoMemory>
+    ensures task { IfOk result (λ task. seen_task task
+        ≡ ReadSlot j s (option_map (λ name. name.bytes) var.now)) }
+    ensures room { IfOk result HasRoom }
+{
+    let bytes = room_for_outputs(alloc)?;
+    let bound = bound_of(alloc, var)?;
+    Ok(Task::ReadSlot(SlotTask { j, s, bytes, bound }))
+}
+
+// To show the blob of a slot, where there is one of these numbers.
+fn slot_task<'e>(
+    alloc: Global,
+    j: u32,
+    s: u32,
+    var: &'e Option<Bytes>,
+) -> Result<Task<'e>, NoMemory>
+    ensures task { IfOk result (λ task. seen_task task
+        ≡ slot_or_none j s (option_map (λ name. name.bytes) var.now)) }
+    ensures room { IfOk result HasRoom }
+    ensures slot { IfOk result (λ task. HasSlot (seen_task task)) }
+    ensures memory { IsErr result → is_slot j s ≡ true }
+{
+    if is_slot(j, s) {
+        return slot_of(alloc, j, s, var);
+    }
+    Ok(Task::Refuse(Refusal::NoSlot))
+}
+
+// To write a blob into a slot, where there is one of these numbers, and it has room for the blob.
+fn overwrite_of(j: u32, s: u32, blob: Bytes) -> Task<'static>
+    ensures task { seen_task result ≡ overwrite_or_refusal j s blob.bytes }
+    ensures slot { HasSlot (seen_task result) }
+{
+    if !is_slot(j, s) {
+        return Task::Refuse(Refusal::NoSlot);
+    }
+    if blob.as_slice().len() > LONGEST_BLOB {
+        return Task::Refuse(Refusal::NoLong);
+    }
+    Task::Overwrite { j, s, blob }
+}
+
+fn overwrite_task(
+    alloc: Global,
+    j: u32,
+    s: u32,
+    blob: &Expr,
+    vars: &Vars,
+) -> Result<Task<'static>, NoMemory>
+    ensures task { IfOk result (λ task. seen_task task
+        ≡ value_task blob.now vars.now.table (λ bytes. overwrite_or_refusal j s bytes)) }
+    ensures slot { IfOk result (λ task. HasSlot (seen_task task)) }
+    ensures memory { IsErr result → IsOk (value_of blob.now vars.now.table) }
+{
+    match worth(alloc, blob, vars)? {
+        Ok(blob) => return Ok(overwrite_of(j, s, blob)),
+        Err(fault) => return Ok(Task::Refuse(Refusal::NoValue(fault))),
+    }
+}
+
 // The values of a session's expressions, from the left.
 fn session_task<'e>(
     alloc: Global,
@@ -493,6 +581,7 @@ pub(crate) fn task_of<'e>(
     ensures named { IfOk result (λ task. IsNamed (seen_task task)) }
     ensures shown { IfOk result (λ task. IsShown (seen_task task)) }
     ensures room { IfOk result HasRoom }
+    ensures slot { IfOk result (λ task. HasSlot (seen_task task)) }
     ensures memory { IsErr result → MayAllocateFor (request_of event.now) vars.now.table }
 {
     match event {
@@ -554,6 +643,8 @@ pub(crate) fn task_of<'e>(
             };
             return check_task(alloc, asked, vars);
         }
+        Event::Slot { j, s, var } => return slot_task(alloc, *j, *s, var),
+        Event::Overwrite { j, s, blob } => return overwrite_task(alloc, *j, *s, blob, vars),
     }
 }
 
@@ -570,6 +661,7 @@ impl Task<'_> {
             Task::RunSession(_) => SESSION_ROOM,
             Task::Unseal(_) => UNSEAL_ROOM,
             Task::Quote { .. } => QUOTE_ROOM,
+            Task::ReadSlot(_) => SLOT_ROOM,
             _ => REGISTER_ROOM,
         }
     }
@@ -584,6 +676,7 @@ impl Task<'_> {
             Task::Unseal(unseal) => unseal.bound.is_some(),
             Task::Draw(bound) => bound.is_some(),
             Task::Quote { nonce: _, bound } => bound.is_some(),
+            Task::ReadSlot(slot) => slot.bound.is_some(),
             _ => false,
         }
     }

@@ -23,3 +23,5 @@ mod runs;
 mod sealing;
 #[cfg(test)]
 mod sessions;
+#[cfg(test)]
+mod slots;

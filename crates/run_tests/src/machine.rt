@@ -11,10 +11,15 @@ pub(crate) type Row = (&'static str, &'static str);
 pub(crate) const LONG: &str = "..";
 
 pub(crate) fn runner(alloc: Global) -> Option<Runner> {
+    runner_failing(alloc, &[])
+}
+
+// One on whose disk the calls of these numbers fail.
+fn runner_failing(alloc: Global, calls: &[u32]) -> Option<Runner> {
     let Ok(board) = Board::blank(alloc) else {
         return None;
     };
-    let Ok(disk) = SimDisk::blank(alloc) else {
+    let Ok(disk) = SimDisk::failing(alloc, calls) else {
         board.scrap();
         return None;
     };
@@ -55,7 +60,12 @@ fn is_row(alloc: Global, runner: Runner, line: &str, wanted: &str) -> (Runner, b
 
 // The index of the first row with another answer, or how many rows there are.
 pub(crate) fn first_wrong(alloc: Global, rows: &[Row]) -> usize {
-    let Some(mut machine) = runner(alloc) else {
+    first_wrong_failing(alloc, &[], rows)
+}
+
+// The same where the calls of these numbers to the disk fail.
+pub(crate) fn first_wrong_failing(alloc: Global, calls: &[u32], rows: &[Row]) -> usize {
+    let Some(mut machine) = runner_failing(alloc, calls) else {
         return 0;
     };
     for (i, (line, wanted)) in rows.iter().enumerate() {

@@ -6,4 +6,4 @@ use Rattle.flicker_cli.proofs.start.begin.Goals as goal
 pub returns-in-Ok-clause-answered : goal.returns-in-Ok-clause-answered
 returns-in-Ok-clause-answered g c =
     let answered = rw (c.new-input.ensures, c.new-out.ensures, c.new-err.ensures, c.in-Ok.ensures.blank) at c.flicker-finished.ensures.answered in
-    record { disk = c.in-Ok.disk; left = known_if (is_untaken c.in-Ok.board.memory) (platform_of c.flicker-finished.result.board c.flicker-finished.result.spans c.flicker-finished.result.disk empty); answered = rw c.exit.ensures answered }
+    record { left = known_if (is_untaken c.in-Ok.board.memory) (platform_of c.flicker-finished.result.board c.flicker-finished.result.spans c.flicker-finished.result.disk empty); answered = rw c.exit.ensures answered }

@@ -10,12 +10,12 @@ so (Err error) One Other follows fact = tt
 pub returns-in-Arm-clause-done : goal.returns-in-Arm-clause-done
 returns-in-Arm-clause-done c =
     rw (c.in-Arm.is, ← c.as_slice.ensures)
-    (so c.arm.result.1 _ _ (λ answer steps untaken disk. steps disk c.args.vars.now.table) c.arm.ensures.steps)
+    (so c.arm.result.1 _ _ (λ answer steps untaken. steps c.args.vars.now.table) c.arm.ensures.steps)
 
 pub returns-in-Take-clause-done : goal.returns-in-Take-clause-done
 returns-in-Take-clause-done c =
     rw c.in-Take.is
-    (so c.take.result.1 _ _ (λ answer steps untaken disk. steps untaken disk c.args.vars.now.table) c.take.ensures.steps)
+    (so c.take.result.1 _ _ (λ answer steps untaken. steps untaken c.args.vars.now.table) c.take.ensures.steps)
 
 pub returns-in-RunSession-clause-done : goal.returns-in-RunSession-clause-done
 returns-in-RunSession-clause-done c = rw c.in-RunSession.is c.run_session.ensures.done

@@ -1,18 +1,17 @@
 use Rattle.std.proofs.Common.{ap, sym, ◌∙◌, Some}
-use Rattle.flk_run.specs.Parts.{platform_with}
+use Rattle.flk_run.specs.Seen.{platform_at}
 use Rattle.flk_run.proofs.BindingLemmas.{shown_too, draw_binds}
 use Rattle.flk_run.proofs.events.run_draw.Goals.{in-Some, in_default}
 use Rattle.flk_run.proofs.events.run_draw.Goals as goal
 
 pub returns-clause-done : goal.returns-clause-done
 returns-clause-done c = elim c.match-bound.branch [
-  | in-Some w ↦ λ untaken disk.
-      let host = c.args.host in
-      let before = platform_with host.armed host.board host.spans disk c.args.vars.now.table in
+  | in-Some w ↦ λ untaken.
+      let before = platform_at c.args.host c.args.vars.now.table in
       let name = w.in-Some.field-0.name.now in
       rw (w.vars-is, w.in-Some.is, w.bind_bytes.ensures)
-      (ap (shown_too (Some name)) (c.draw-host.ensures.steps untaken disk c.args.vars.now.table)
+      (ap (shown_too (Some name)) (c.draw-host.ensures.steps untaken c.args.vars.now.table)
       ∙ sym (draw_binds before (Some name)))
-  | in_default w ↦ λ untaken disk.
-      rw (w.vars-is, w.in_default.is) (c.draw-host.ensures.steps untaken disk c.args.vars.now.table)
+  | in_default w ↦ λ untaken.
+      rw (w.vars-is, w.in_default.is) (c.draw-host.ensures.steps untaken c.args.vars.now.table)
 ]

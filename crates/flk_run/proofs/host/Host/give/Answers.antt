@@ -37,16 +37,16 @@ returns-in-Some-clause-steps c =
     let at_index : position (starts c.args.at) spans
     ≡ Some c.in-Some.index = sym (rw c.deref.ensures.value at c.in-Some.ensures) in
     let there = stood spans c.args.at c.in-Some.index c.remove-ticket.result at_index c.remove-ticket.ensures.value in
-    rw (← c.host.view_is) (λ untaken disk variables.
+    rw (← c.host.view_is) (λ untaken variables.
     let left = give_done c.args.at c.in-Some.index c.host.inside.board.memory c.give.new.board.memory spans c.remove-ticket.result (c.host.invariant.all untaken)
     there at_index c.give.ensures.given c.give.ensures.others in
     memory_steps _ _ _
-    (host_memory c.host.inside.board.memory spans) _ Done c.host.inside.armed disk variables c.give.ensures.device
+    (host_memory c.host.inside.board.memory spans) _ Done c.host.inside.armed c.host.inside.disk variables c.give.ensures.device
     (rw c.remove-ticket.ensures.items left.is))
 
 pub returns-in-None-clause-steps : goal.returns-in-None-clause-steps
-returns-in-None-clause-steps c = rw (← c.host.view_is) (λ untaken disk variables.
+returns-in-None-clause-steps c = rw (← c.host.view_is) (λ untaken variables.
     let left = give_missing c.args.at c.host.inside.board.memory c.host.inside.tickets.items
     (c.host.invariant.all untaken) (sym (rw c.deref.ensures.value at c.in-None.ensures)) in
     memory_steps _ _ _ (host_memory c.host.inside.board.memory c.host.inside.tickets.items) _
-    (Refused NoSpan) c.host.inside.armed disk variables (kept c.host.inside.board) left.is)
+    (Refused NoSpan) c.host.inside.armed c.host.inside.disk variables (kept c.host.inside.board) left.is)

@@ -14,7 +14,7 @@ all_written n written rest long =
     ap (λ (k : ℕ). take k (written ++ rest)) long ∙ take-append_seam written rest
 
 pub returns-in-Ok-clause-steps : goal.returns-in-Ok-clause-steps
-returns-in-Ok-clause-steps c = rw (← c.self.view_is) (λ untaken disk variables.
+returns-in-Ok-clause-steps c = rw (← c.self.view_is) (λ untaken variables.
     let whole = all_written c.args.bytes.len c.host_read.new.out
     (drop (length c.host_read.new.out) c.args.bytes.items)
     (omega (arith, c.host_read.auto.out, c.deref_mut.ensures.len)) in
@@ -23,12 +23,12 @@ returns-in-Ok-clause-steps c = rw (← c.self.view_is) (λ untaken disk variable
     (rw c.deref_mut.ensures.value at c.in-Ok.ensures.taken)
     (rw c.deref_mut.ensures.value at c.in-Ok.ensures.read) in
     memory_steps _ _ _ (host_memory c.self.inside.board.memory c.self.inside.tickets.items) _
-    (Shows _) c.self.inside.armed disk variables (kept c.self.inside.board) (rw whole left.is))
+    (Shows _) c.self.inside.armed c.self.inside.disk variables (kept c.self.inside.board) (rw whole left.is))
 
 pub returns-in-Err-clause-steps : goal.returns-in-Err-clause-steps
-returns-in-Err-clause-steps c = rw (← c.self.view_is) (λ untaken disk variables.
+returns-in-Err-clause-steps c = rw (← c.self.view_is) (λ untaken variables.
     let left = peek_refused c.args.at
     (length c.args.bytes.items) c.self.inside.board.memory c.self.inside.tickets.items
     (c.self.invariant.all untaken) (rw c.deref_mut.ensures.value at c.in-Err.ensures.taken) in
     memory_steps _ _ _ (host_memory c.self.inside.board.memory c.self.inside.tickets.items) _
-    (Refused NoTaken) c.self.inside.armed disk variables (kept c.self.inside.board) left.is)
+    (Refused NoTaken) c.self.inside.armed c.self.inside.disk variables (kept c.self.inside.board) left.is)

@@ -16,15 +16,15 @@ invariant_of-host c = rw c.keep.ensures (record {
 })
 
 pub returns-in-Ok-clause-steps : goal.returns-in-Ok-clause-steps
-returns-in-Ok-clause-steps c = rw (← c.host.view_is) (λ untaken disk variables.
+returns-in-Ok-clause-steps c = rw (← c.host.view_is) (λ untaken variables.
     let left = take_done c.args.frames c.host.inside.board.memory c.take.new.board.memory c.host.inside.tickets.items c.in-Ok.ticket (c.host.invariant.all untaken) (omega arith) c.in-Ok.ensures.took in
     memory_steps _ _ _
-    (host_memory c.host.inside.board.memory c.host.inside.tickets.items) _ _ c.host.inside.armed disk variables c.take.ensures.device (rw (c.keep.ensures, c.first.ensures) left.is))
+    (host_memory c.host.inside.board.memory c.host.inside.tickets.items) _ _ c.host.inside.armed c.host.inside.disk variables c.take.ensures.device (rw (c.keep.ensures, c.first.ensures) left.is))
 
 pub returns-in-Err-NoRoom-clause-steps : goal.returns-in-Err-NoRoom-clause-steps
 returns-in-Err-NoRoom-clause-steps c =
-    rw (← c.host.view_is, c.in-Err-NoRoom.ensures.err) (λ untaken disk variables.
+    rw (← c.host.view_is, c.in-Err-NoRoom.ensures.err) (λ untaken variables.
     let left = take_missing c.args.frames c.host.inside.board.memory c.host.inside.tickets.items
     (c.host.invariant.all untaken) (omega arith) (c.in-Err-NoRoom.ensures.refused (ap Err c.in-Err-NoRoom.field-0-is)) in
     memory_steps _ _ _ (host_memory c.host.inside.board.memory c.host.inside.tickets.items) _
-    (Refused NoRoom) c.host.inside.armed disk variables (kept c.host.inside.board) left.is)
+    (Refused NoRoom) c.host.inside.armed c.host.inside.disk variables (kept c.host.inside.board) left.is)
