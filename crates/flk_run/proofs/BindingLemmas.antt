@@ -17,7 +17,8 @@ use Rattle.flk_run.specs.Events.{after_unseal, after_draw, after_quote, after_re
 use Rattle.flk_run.specs.Sessions.{shown_in, table_with}
 use Rattle.flk_run.specs.Tasks as task
 use Rattle.flk_run.specs.Tasks.{Task}
-use Rattle.flk_run.proofs.SessionLemmas.{DigestMachine, machine, on_machine, fused_machine, settled, stop_settled}
+use Rattle.job_engine.specs.Whole.{on_both}
+use Rattle.flk_run.proofs.SessionLemmas.{DigestMachine, machine, fused_machine, settled, stop_settled}
 
 -- what is around where a name was bound to what an answer shows, if it does, beside the answer
 abbrev bound_around : List ℕ → Around × Answer → Around × Answer
@@ -40,10 +41,10 @@ module _ (p : DigestPlatform) (c : AnyCommand) (after : Option (List ℕ) → An
   settled_with var ran = settled p.around (then_fused any_costs machine (λ reply. Return (after var reply)) ran)
 
   step_at : (var : Option (List ℕ))
-      → task_step digests (task var) p ≡ settled_with var (on_machine (ask c) (fused_machine p))
+      → task_step digests (task var) p ≡ settled_with var (on_both (ask c) (fused_machine p))
   step_at var =
       stop_settled p.around (plan_of (task var) p.around) (fused_machine p)
-      ∙ ap (λ plan. settled p.around (on_machine plan (fused_machine p))) (plan var)
+      ∙ ap (λ plan. settled p.around (on_both plan (fused_machine p))) (plan var)
       ∙ ap (settled p.around) (fused-bind any_costs machine (ask c) (λ reply. Return (after var reply)) (fused_machine p))
 
   binds_then : (var : Option (List ℕ)) (ran : Fused DigestMachine × Option (AnyReply c))
@@ -56,7 +57,7 @@ module _ (p : DigestPlatform) (c : AnyCommand) (after : Option (List ℕ) → An
       → task_step digests (task var) p ≡ shown_too var (task_step digests (task None) p)
   command_binds var =
       step_at var
-      ∙ binds_then var (on_machine (ask c) (fused_machine p))
+      ∙ binds_then var (on_both (ask c) (fused_machine p))
       ∙ ap (shown_too var) (sym (step_at None))
 
 -- the name of an unseal

@@ -10,7 +10,7 @@ use Rattle.std.proofs.lemmas.Option.{unwrap_or-slice_get, get_or_from_slice_get}
 use Rattle.std.specs.Option.{unwrap_or}
 use Rattle.flk_base.specs.Plan.{Plan, Machine, Return, ◌>>=◌, run}
 use Rattle.flk_base.specs.PlanLaws.{run-bind}
-use Rattle.flk_base.specs.Stop.{Limit, limited, Fused, with_fuse, end_of, fused, then_fused}
+use Rattle.flk_base.specs.Stop.{Limit, limited, Fused, with_fuse, end_of, then_fused}
 use Rattle.flk_base.specs.StopLaws.{fused-bind}
 use Rattle.region_pool.specs.declared.mark.Mark.{Mark}
 use Rattle.region_pool.specs.Marks.{is_free}
@@ -45,6 +45,7 @@ use Rattle.session_driver.specs.declared.driver.SessionEnd.TheVariants as ends
 use Rattle.flk_run.specs.declared.answers.Refusal.TheVariants.{PowerLost}
 use Rattle.job_store.specs.Simulated.{Simulated}
 use Rattle.job_engine.specs.Commands.{AnyCommand, AnyReply, any_costs, any_act, cycled, to_device}
+use Rattle.job_engine.specs.Whole.{on_both}
 use Rattle.job_engine.proofs.Machines.{fused_to_device}
 use Rattle.flk_run.specs.Answers.{Answer, Ended, Refused}
 use Rattle.flk_run.specs.Platform.{Around, DigestPlatform, after_power_on}
@@ -187,10 +188,6 @@ DigestMachine = DigestDevice × Simulated
 abbrev pub machine : Machine AnyCommand AnyReply DigestMachine
 machine = any_act (act digests)
 
--- a plan on both with a fuse
-abbrev pub on_machine : {X : Type 0} → Plan AnyCommand AnyReply X → Fused DigestMachine → Fused DigestMachine × Option X
-on_machine plan before = fused any_costs machine plan before
-
 -- the device and the disk of a platform, with its fuse
 abbrev pub fused_machine : DigestPlatform → Fused DigestMachine
 fused_machine p = with_fuse (p.device, p.disk) p.fuse
@@ -220,7 +217,7 @@ settled_so w (here, (left, None)) = refl
 
 -- it is what the plan comes to
 pub stop_settled : (w : Around) (plan : Plan AnyCommand AnyReply (Around × Answer)) (before : Fused DigestMachine)
-    → after_outcome (run machine (with_stop w before.fuse plan) before.state) ≡ settled w (on_machine plan before)
+    → after_outcome (run machine (with_stop w before.fuse plan) before.state) ≡ settled w (on_both plan before)
 stop_settled w plan before =
     ap (λ (end : DigestMachine × Outcome). after_outcome end)
     (run-bind machine (limited any_costs plan before.fuse) (settlement w) before.state)

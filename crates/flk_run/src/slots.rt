@@ -3,8 +3,9 @@ ghost use Rattle.std.specs.Prelude.{◌≡◌, ◌≤◌, ◌<◌, length, IfOk}
 ghost use Rattle.flk_base.specs.Plan.{ask};
 ghost use Rattle.job_store.specs.Commands.{ReadSlot, WriteSlot, SyncSlots};
 ghost use Rattle.job_engine.specs.Commands.{ToSlots};
+ghost use Rattle.job_engine.specs.Whole.{on_both};
 ghost use Rattle.flk_run.specs.Events.{overwrites};
-ghost use Rattle.flk_run.specs.Slots.{on_machine, fused_machine, read_reply, done_reply};
+ghost use Rattle.flk_run.specs.Slots.{fused_machine, read_reply, done_reply};
 
 use job_store::{JOBS, LONGEST_BLOB, SLOT_LEN, SimDisk, SlotFault, Slots};
 use late_launch::Board;
@@ -20,7 +21,7 @@ pub(crate) fn read_slot(
     requires job { j < JOBS }
     requires slot { s < 2 }
     ensures read { (fused_machine board.new disk.new, read_reply out.new result)
-        ≡ on_machine (ask (ToSlots (ReadSlot j s))) (fused_machine board.old disk.old) }
+        ≡ on_both (ask (ToSlots (ReadSlot j s))) (fused_machine board.old disk.old) }
     ensures kept { board.new ≡ record board.old { fuse = board.new.fuse } }
     ensures short { IfOk result (λ len. len ≤ LONGEST_BLOB) }
 {
@@ -39,7 +40,7 @@ fn write_slot(
     requires slot { s < 2 }
     requires short { length blob.now ≤ LONGEST_BLOB }
     ensures written { (fused_machine board.new disk.new, done_reply result)
-        ≡ on_machine (ask (ToSlots (WriteSlot j s blob.now))) (fused_machine board.old disk.old) }
+        ≡ on_both (ask (ToSlots (WriteSlot j s blob.now))) (fused_machine board.old disk.old) }
     ensures kept { board.new ≡ record board.old { fuse = board.new.fuse } }
 {
     Slots::write(disk, j, s, blob, &mut board.fuse)
@@ -48,7 +49,7 @@ fn write_slot(
 // Syncs the disk, in one step.
 fn sync_slots(board: &mut Board, disk: &mut SimDisk) -> Result<(), SlotFault>
     ensures synced { (fused_machine board.new disk.new, done_reply result)
-        ≡ on_machine (ask (ToSlots SyncSlots)) (fused_machine board.old disk.old) }
+        ≡ on_both (ask (ToSlots SyncSlots)) (fused_machine board.old disk.old) }
     ensures kept { board.new ≡ record board.old { fuse = board.new.fuse } }
 {
     Slots::sync(disk, &mut board.fuse)
@@ -66,7 +67,7 @@ pub(crate) fn overwrite(
     requires slot { s < 2 }
     requires short { length blob.now ≤ LONGEST_BLOB }
     ensures overwritten { (fused_machine board.new disk.new, done_reply result)
-        ≡ on_machine (overwrites j s blob.now) (fused_machine board.old disk.old) }
+        ≡ on_both (overwrites j s blob.now) (fused_machine board.old disk.old) }
     ensures kept { board.new ≡ record board.old { fuse = board.new.fuse } }
 {
     match write_slot(board, disk, j, s, blob) {
