@@ -5,3 +5,4 @@ pub mod Sessions
 pub mod Whole
 pub mod WholeCalls
 pub mod Lists
+pub mod Returns
