@@ -9,7 +9,6 @@ use Rattle.slb_image.specs.declared.fault.ImageFault.{ImageFault}
 use Rattle.job_store.specs.declared.sizes.TheConstants.{JOBS}
 use Rattle.job_engine.specs.declared.ends.JobEnd.{JobEnd}
 use Rattle.job_engine.specs.declared.ends.JobEnd.TheVariants as ends
-use Rattle.job_engine.specs.declared.ends.TheConstants.{LONGEST_INPUTS}
 
 -- a job: its name, and its image; the j-th of a list has the slots (j, 0) and (j, 1)
 pub record Job : Type 0 where
@@ -44,9 +43,9 @@ pub record IsPlaceOf (jobs : List Job) (name : List ℕ) (j : ℕ) (image : List
   pub few : j < JOBS
   pub is_job : IsJobImage image
 
--- more bytes than the inputs of a job's code may have
+-- more bytes than the inputs of a job's code may have, which are 1,024
 abbrev pub are_long : List ℕ → Bool
-are_long inputs = nat_lt LONGEST_INPUTS (length inputs)
+are_long inputs = nat_lt 1024 (length inputs)
 
 -- why a job can't be added, before anything is done for it: the first reason in this order
 abbrev pub new_refusal : List Job → List ℕ → List ℕ → List ℕ → Option JobEnd
